@@ -1,0 +1,106 @@
+-- Unused rule places change nothing: a rule that applies is in the list, so models that are the same make the same walks
+-- and have the same verdict.
+use mathlib.Core.List.{List, [], _∷_}
+use mathlib.Core.Path.{_≡_, refl, sym, ap, fun-ext}
+use Prim.Native.Nat.{ℕ, _<_}
+use native.Mathlib.Decide.{decLt}
+use native.Mathlib.Omega.{arith}
+use borrow.Author.Tests.{le-ltb}
+use Rattle.model.specs.declared.Model.{Model}
+use Rattle.model.specs.declared.Shared.{Shared}
+use Rattle.model.specs.declared.Thread.{Thread}
+use Rattle.model.specs.Rules.{applies}
+use Rattle.model.specs.Runs.{Leads, Reaches}
+use Rattle.model.specs.Valid.{SameThread, Same, Valid}
+use Rattle.model.specs.Verdict.{Verdict, clear, long, found, AtLeast, Judged}
+use Rattle.model.specs.Walk.{ThreadId, A, B, ownerOf, threadOf, stackOf, Config, startOf, Step, turnFits, fire, stepFrom, walk}
+use Rattle.model.proofs.Ranges.{ThreadFits, valid-fits}
+
+-- Sameness goes both ways.
+back-thread : {t u : Thread} → SameThread t u → SameThread u t
+back-thread s =
+    record { first = sym (s .first); count = sym (s .count); rules = λ r h. sym (s .rules r (rw (s .count) h)) }
+
+pub back : {m n : Model} → Same m n → Same n m
+back s =
+    record {
+      g = sym (s .g);
+      k = sym (s .k);
+      start = sym (s .start);
+      target = sym (s .target);
+      a = back-thread (s .a);
+      b = back-thread (s .b);
+    }
+
+thread-of : {m n : Model} → Same m n → (i : ThreadId) → SameThread (threadOf i m) (threadOf i n)
+thread-of s A = s .a
+thread-of s B = s .b
+
+fits : {g h : ℕ} {t u : Thread} → g ≡ h → SameThread t u → ThreadFits g t → ThreadFits h u
+fits {g} {h} {t} {u} e s f =
+    record {
+      first = rw (← s .first) (f .first);
+      count = rw (← s .count) (f .count);
+      rules = λ r k. let j : r < t .count = rw (s .count) k in rw (← e, ← s .rules r j) (f .rules r j);
+    }
+
+-- A model that is the same as a valid one is valid.
+pub same-valid : {m n : Model} → Same m n → Valid m → Valid n
+same-valid {m} {n} s v =
+    let f = valid-fits m .0 v in
+    valid-fits n .1
+    (record {
+      g = rw (← s .g) (f .g);
+      k = rw (← s .k) (f .k);
+      start = rw (← s .start, ← s .g) (f .start);
+      target = rw (← s .target, ← s .g) (f .target);
+      a = fits (s .g) (s .a) (f .a);
+      b = fits (s .g) (s .b) (f .b);
+    })
+
+-- A thread fires the same: a rule in its list is the same one, and any other does not apply.
+same-fire : {m n : Model} → Same m n → (c : Config) (s : Step) (w : List ℕ) → fire m c s w ≡ fire n c s w
+unfolding fire applies
+same-fire e c s [] = refl
+same-fire {m} {n} e c s (top ∷ w) =
+    let i = ownerOf (s .turn) in
+    let t = thread-of e i in
+    elim (decLt (s .rule) (threadOf i m .count)) [
+      | yes h ↦ rw (t .count, t .rules (s .rule) h)
+      | no h ↦ rw (← t .count, le-ltb (s .rule) (threadOf i m .count) (omega arith))
+    ]
+
+-- Models that are the same make the same walks.
+pub same-walk : {m n : Model} → Same m n → (ss : List Step) (c : Config) → walk m c ss ≡ walk n c ss
+unfolding walk stepFrom turnFits
+same-walk s [] c = refl
+same-walk {m} {n} s (x ∷ xs) c =
+    rw (same-fire s c x (stackOf (ownerOf (x .turn)) (c .stacks)), fun-ext (same-walk s xs), s .k)
+
+same-start : {m n : Model} → Same m n → startOf m ≡ startOf n
+same-start s = rw (s .start, s .a .first, s .b .first)
+
+-- A schedule leads to the same shared state.
+pub same-leads : {m n : Model} → Same m n → {ss : List Step} {g : ℕ} → Leads m ss g → Leads n ss g
+same-leads {m} {n} s {ss} l =
+    record { last = l .last; walked = rw (← same-start s, ← same-walk s ss (startOf m)) (l .walked); ends = l .ends }
+
+same-reaches : {m n : Model} → Same m n → {ss : List Step} → Reaches m ss → Reaches n ss
+same-reaches s {ss} l = rw (ap (λ (t : Shared). t .0) (s .target)) at (same-leads s l)
+
+same-least : {m n : Model} → Same m n → {k : ℕ} → AtLeast m k → AtLeast n k
+same-least s h ss l = h ss (same-reaches (back s) l)
+
+-- A verdict of one is a verdict of the other.
+pub same-judged : {m n : Model} → Same m n → (v : Verdict) → Judged m v → Judged n v
+same-judged s clear j = λ ss l. j ss (same-reaches (back s) l)
+same-judged s long j = ((j .0 .0, same-reaches s (j .0 .1)), same-least s (j .1))
+same-judged s (found k) j = (
+  j .0,
+  record {
+    schedule = j .1 .schedule;
+    reaches = same-reaches s (j .1 .reaches);
+    steps = j .1 .steps;
+    least = same-least s (j .1 .least);
+  },
+)

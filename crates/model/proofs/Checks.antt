@@ -1,0 +1,56 @@
+-- Checks made in order: a fault is the answer, and a check that finds none leaves the answer to those after it.
+use mathlib.Core.List.{List, [], _∷_, map}
+use mathlib.Core.Path.{_≡_, refl, sym, _∙_}
+use Prim.Native.Nat.{ℕ, zero, suc, _+_, _<_, _≤_}
+use native.Mathlib.Nat.{le-antisymm}
+use native.Mathlib.Numerals.{add-one}
+use lib.ListN.{length, getD, length-map}
+use lib.Seq.{slice, slice-cons, slice-empty}
+use Rattle.model.specs.Valid.{firstOf}
+
+-- A fault that is found is the answer, whatever is checked after it.
+pub stops : {found n : ℕ} (ns : List ℕ) → found ≡ n → (found ≡ 0 → ⊥) → found ≡ firstOf (n ∷ ns)
+unfolding firstOf
+stops {found} {n} ns e h = rw (← e) (go found h)
+  where
+    go : (k : ℕ) → (k ≡ 0 → ⊥) → k ≡ firstOf (k ∷ ns)
+    go zero p = absurd (p refl)
+    go (suc k) p = refl
+
+-- A check that finds nothing leaves the answer to the ones after it.
+pub passes : {found n r : ℕ} (ns : List ℕ) → found ≡ n → found ≡ 0 → r ≡ firstOf ns → r ≡ firstOf (n ∷ ns)
+unfolding firstOf
+passes ns e z h = rw (← e, z) h
+
+-- The last check is the answer.
+pub closes : {r n : ℕ} → r ≡ n → r ≡ firstOf (n ∷ [])
+unfolding firstOf
+closes {r} {n} e = rw e (go n)
+  where
+    go : (k : ℕ) → k ≡ firstOf (k ∷ [])
+    go zero = refl
+    go (suc k) = refl
+
+-- The fault of the elements from place i up to n.
+abbrev pub faultFrom : {A : Type 0} → (A → ℕ) → List A → ℕ → ℕ → ℕ
+faultFrom check l i n = firstOf (map check (slice i n l))
+
+-- A loop of checks: the fault found at place i is that of all places from i on ..
+module _ {A : Type 0} (check : A → ℕ) (l : List A) (d : A) (i n : ℕ) (h : i < n) (k : n ≤ length l)
+    {found : ℕ} (e : found ≡ check (getD l i d)) where
+  pub stops-at : (found ≡ 0 → ⊥) → found ≡ faultFrom check l i n
+  stops-at p = rw (slice-cons i n l d h k) (stops _ e p)
+
+  -- .. and where there is none, the places after it decide.
+  pub goes-on : found ≡ 0 → faultFrom check l (i + 1) n ≡ faultFrom check l i n
+  goes-on z = rw (slice-cons i n l d h k, add-one) (passes _ e z refl)
+
+-- At the last place there is no fault left to find.
+pub runs-out : {A : Type 0} (check : A → ℕ) (l : List A) (i n : ℕ) → i ≤ n → n ≤ i
+    → faultFrom check l i n ≡ faultFrom check l 0 n → 0 ≡ faultFrom check l 0 n
+unfolding firstOf
+runs-out check l i n h k e = rw (le-antisymm h k, slice-empty) at e
+
+-- A list is as long as its image.
+pub length-mapped : {X Y : Type 0} (f : X → Y) (l : List X) (n : ℕ) → length (map f l) ≡ n → length l ≡ n
+length-mapped f l n h = sym (length-map l f) ∙ h

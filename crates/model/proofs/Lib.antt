@@ -1,0 +1,11 @@
+pub mod Alike
+pub mod Cases
+pub mod Checks
+pub mod Inside
+pub mod Positions
+pub mod Ranges
+pub mod Steps
+pub mod Table
+pub mod Tests
+pub mod Turns
+pub mod Verdicts

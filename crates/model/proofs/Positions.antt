@@ -1,0 +1,127 @@
+-- Positions and lines are inverse to each other: shorter lines fill the places below a line's own length, and within a
+-- length the base-g value of n states runs through the places below gⁿ. So no two lines share a place, and `lineAt`
+-- finds a line for each place of the table.
+use mathlib.Core.Bool.{Bool, true, false, cond}
+use mathlib.Core.Path.{_≡_, refl, ap, sym}
+use mathlib.Core.List.{List, [], _∷_}
+use mathlib.Core.Logic.{inl, inr}
+use Prim.Native.Nat.{ℕ, zero, suc, _+_, _-_, _*_, _%_, _^_, _<_, _≤_, pred}
+use native.Mathlib.Nat.{le-suc-iff, pow-zero, pow-succ', mod-lt, div-add-mod', div-lt-iff-lt-mul, lt-of-mul-lt-mul-left}
+use native.Mathlib.Omega.{arith}
+use lib.Arith.{le-zero, digits-lt, digits-div, digits-mod}
+use lib.Dec.{ltb}
+use lib.ListN.{length}
+use borrow.Author.Tests.{ltb-true, ltb-false}
+use Rattle.model.specs.Lines.{States, Line, powers, bits, value, position, digits, lineFrom, lineAt}
+
+-- n states have a value below gⁿ.
+pub value-below : (g : ℕ) (line : List ℕ) → States g line → value g line < g ^ length line
+unfolding value
+value-below g [] s = omega (arith, pow-zero g)
+value-below g (x ∷ xs) s = rw pow-succ' (digits-lt (s .0) (value-below g xs (s .1)))
+
+-- There are as many digits as asked for.
+pub length-digits : (g n v : ℕ) → length (digits g n v) ≡ n
+unfolding digits
+length-digits g zero v = refl
+length-digits g (suc n) v = ap suc (length-digits g n (v % g ^ n))
+
+-- Where a power is above something, the power before it is not 0.
+positive : (g n : ℕ) {v : ℕ} → v < g ^ suc n → 0 < g ^ n
+positive g n h = lt-of-mul-lt-mul-left g (omega (arith, pow-succ' g n))
+
+-- The digits of a value below gⁿ are states.
+pub digits-states : (g n v : ℕ) → v < g ^ n → States g (digits g n v)
+unfolding digits
+digits-states g zero v h = tt
+digits-states g (suc n) v h =
+    let p = positive g n h in
+    (div-lt-iff-lt-mul p .1 (rw pow-succ' at h), digits-states g n (v % g ^ n) (mod-lt v p))
+
+-- The digits of a value have that value.
+pub value-digits : (g n v : ℕ) → v < g ^ n → value g (digits g n v) ≡ v
+unfolding digits value
+value-digits g zero v h = omega (arith, pow-zero g)
+value-digits g (suc n) v h =
+    rw (length-digits g n (v % g ^ n), value-digits g n (v % g ^ n) (mod-lt v (positive g n h)), div-add-mod')
+
+-- The digits of a line's value are the line.
+pub digits-value : (g : ℕ) (line : List ℕ) → States g line → digits g (length line) (value g line) ≡ line
+unfolding digits value
+digits-value g [] s = refl
+digits-value g (x ∷ xs) s =
+    let b = value-below g xs (s .1) in
+    rw (digits-div x b, digits-mod x b, digits-value g xs (s .1))
+
+-- There are no fewer lines up to more states.
+powers-mono : (g i j : ℕ) → i ≤ j → powers g i ≤ powers g j
+unfolding powers
+powers-mono g i zero h = omega (arith, ap (powers g) (le-zero h))
+powers-mono g i (suc j) h =
+    elim (le-suc-iff .0 h) [ inl l ↦ omega (arith, powers-mono g i j l) | inr e ↦ omega (arith, ap (powers g) e) ]
+
+-- A line of at most n states stands before all the lines that have more than n.
+before : {g k n : ℕ} {line : List ℕ} → Line g k line → length line ≤ n → position g line < powers g n
+unfolding powers
+before {line = []} l h = absurd (omega arith)
+before {g} {line = x ∷ xs} l h = omega (arith, value-below g (x ∷ xs) (l .states), powers-mono g (suc (length xs)) _ h)
+
+-- The place of a line is within the table.
+pub position-below : {g k : ℕ} {line : List ℕ} → Line g k line → position g line < bits g k
+position-below l = before l (l .most)
+
+-- A line is not shorter than another at its place.
+not-shorter : {g k : ℕ} {a b : List ℕ} → Line g k a → Line g k b → position g a ≡ position g b → ¬ (length a < length b)
+not-shorter {b = b} l m e h = omega (arith, before {n = pred (length b)} l (omega arith))
+
+-- A place determines its line.
+pub position-injective : {g k : ℕ} {a b : List ℕ} → Line g k a → Line g k b → position g a ≡ position g b → a ≡ b
+position-injective {g} {a = a} {b = b} l m e =
+    let lengths : length a ≡ length b = omega (arith, not-shorter l m e, not-shorter m l (sym e)) in
+    let values : value g a ≡ value g b = omega (arith, ap (λ (n : ℕ). powers g (pred n)) lengths) in
+    cc (digits-value g a (l .states), digits-value g b (m .states))
+
+-- What both arms of a test have.
+either : {A : Type 0} (P : A → Type 0) (b : Bool) {x y : A} → (b ≡ true → P x) → (b ≡ false → P y) → P (cond b x y)
+either P true t f = t refl
+either P false t f = f refl
+
+-- This is a line, and it stands at place p.
+record Stands (g k p : ℕ) (line : List ℕ) : Type 0 where
+  sound : Line g k line
+  place : position g line ≡ p
+
+module _ (g k p : ℕ) (inside : p < bits g k) where
+  -- Place p is q places after the lines of up to m states.
+  line-from : (more m q : ℕ) → m + more ≡ 2 * k → powers g m + q ≡ p → Stands g k p (lineFrom g more (suc m) q)
+  unfolding lineFrom powers
+  line-from zero m q e f = absurd (omega (arith, powers-mono g (2 * k) m (omega arith)))
+  line-from (suc more) m q e f =
+      either (Stands g k p) (ltb q (g ^ suc m))
+      (λ t. let b = ltb-true _ _ t in record {
+        sound = record {
+          some = rw length-digits (omega arith);
+          most = rw length-digits (omega arith);
+          states = digits-states g (suc m) q b;
+        };
+        place = rw (length-digits, value-digits g (suc m) q b) f;
+      })
+      (λ t. line-from more (suc m) (q - g ^ suc m) (omega arith) (omega (arith, ltb-false)))
+
+  stands : Stands g k p (lineAt g k p)
+  unfolding powers
+  stands = line-from (2 * k) 0 p (omega arith) (omega arith)
+
+-- The line at a place of the table is a line.
+pub line-at : (g k p : ℕ) → p < bits g k → Line g k (lineAt g k p)
+line-at g k p h = stands g k p h .sound
+
+-- The line at a place stands there.
+pub position-line-at : (g k p : ℕ) → p < bits g k → position g (lineAt g k p) ≡ p
+position-line-at g k p h = stands g k p h .place
+
+-- The line at a line's place is that line.
+pub line-at-position : {g k : ℕ} {line : List ℕ} → Line g k line → lineAt g k (position g line) ≡ line
+line-at-position l =
+    let s = stands _ _ _ (position-below l) in
+    position-injective (s .sound) l (s .place)

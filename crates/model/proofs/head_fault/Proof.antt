@@ -1,0 +1,55 @@
+-- `head_fault` meets its contract: each test of the code decides one check of the definition.
+use Rattle.model.specs.Valid.{firstOf, headFault}
+use Rattle.model.proofs.Tests.{decided}
+use Rattle.model.proofs.head_fault.Statement.{statement}
+use Rattle.model.proofs.head_fault.Tie as tie
+
+returns : tie.Need-returns
+unfolding headFault firstOf
+returns c = search decided
+
+returns-2 : tie.Need-returns-2
+unfolding headFault firstOf
+returns-2 c = search decided
+
+returns-3 : tie.Need-returns-3
+unfolding headFault firstOf
+returns-3 c = search decided
+
+returns-4 : tie.Need-returns-4
+unfolding headFault firstOf
+returns-4 c = search decided
+
+returns-5 : tie.Need-returns-5
+unfolding headFault firstOf
+returns-5 c = search decided
+
+returns-6 : tie.Need-returns-6
+unfolding headFault firstOf
+returns-6 c = search decided
+
+returns-7 : tie.Need-returns-7
+unfolding headFault firstOf
+returns-7 c = search decided
+
+returns-8 : tie.Need-returns-8
+unfolding headFault firstOf
+returns-8 c = search decided
+
+returns-9 : tie.Need-returns-9
+unfolding headFault firstOf
+returns-9 c = search decided
+
+pub head-fault-spec : {M : Type 1} → statement M
+head-fault-spec =
+    tie.close
+    (tie.spec
+    returns
+    returns-2
+    returns-3
+    returns-4
+    returns-5
+    returns-6
+    returns-7
+    returns-8
+    returns-9)

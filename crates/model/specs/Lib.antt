@@ -1,0 +1,6 @@
+pub mod Lines
+pub mod Rules
+pub mod Runs
+pub mod Valid
+pub mod Verdict
+pub mod Walk

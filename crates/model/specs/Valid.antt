@@ -1,0 +1,78 @@
+-- Which models are valid, which refusal number a model handed in as values gets, and when two models are the same.
+use mathlib.Core.Bool.{Bool, true, false, _&&_}
+use mathlib.Core.List.{List, [], _∷_, map}
+use mathlib.Core.Path.{_≡_}
+use Prim.Native.Nat.{ℕ, zero, suc, _<_}
+use lib.Dec.{leb, ltb}
+use lib.ListN.{take}
+use Rattle.model.specs.declared.Model.{Model}
+use Rattle.model.specs.declared.Right.{Right}
+use Rattle.model.specs.declared.Right.the-variants.{Remove, Swap, Push}
+use Rattle.model.specs.declared.Rule.{Rule}
+use Rattle.model.specs.declared.Symbol.{Symbol}
+use Rattle.model.specs.declared.Thread.{Thread}
+use Rattle.model.specs.Rules.{ruleAt}
+
+-- Refusal n where a test fails; 0 stands for no fault.
+abbrev pub refuse : ℕ → Bool → ℕ
+refuse n true = 0
+refuse n false = n
+
+-- The first fault of checks made in order.
+unfoldable pub firstOf : List ℕ → ℕ
+firstOf [] = 0
+firstOf (zero ∷ ns) = firstOf ns
+firstOf (suc n ∷ ns) = suc n
+
+-- The head fields in the record's bit order: G, K, start, target, the first symbols of A and of B.
+unfoldable pub headFault : Model → ℕ
+headFault m =
+    firstOf
+    (refuse 3 (leb 1 (m .g) && leb (m .g) 4) ∷ refuse 3 (leb 1 (m .k) && leb (m .k) 3) ∷
+    refuse 3 (ltb (m .start .0) (m .g)) ∷ refuse 3 (ltb (m .target .0) (m .g)) ∷
+    refuse 3 (leb (m .a .first .0) 15) ∷ refuse 3 (leb (m .b .first .0) 15) ∷ [])
+
+-- A symbol of a rule is at most 15.
+unfoldable pub symbolFault : Symbol → ℕ
+symbolFault s = refuse 4 (leb (s .0) 15)
+
+-- The new symbols of a rule.
+unfoldable pub rightFault : Right → ℕ
+rightFault Remove = 0
+rightFault (Swap a) = symbolFault a
+rightFault (Push a b) = firstOf (symbolFault a ∷ symbolFault b ∷ [])
+
+-- A rule's states are below G and its symbols at most 15.
+unfoldable pub ruleFault : ℕ → Rule → ℕ
+ruleFault g r =
+    firstOf
+    (refuse 4 (ltb (r .before .0) g) ∷ symbolFault (r .symbol) ∷ refuse 4 (ltb (r .after .0) g) ∷
+    rightFault (r .right) ∷ [])
+
+-- A thread has at most 64 rules, and each of them is in range; unused places are not looked at.
+unfoldable pub threadFault : ℕ → Thread → ℕ
+threadFault g t =
+    firstOf (refuse 4 (leb (t .count) 64) ∷ firstOf (map (ruleFault g) (take (t .count) (t .rules))) ∷ [])
+
+-- The refusal number of a model handed in as values: its head by 3, then A's rules by 4, then B's by 4; 0 for none.
+unfoldable pub faultOf : Model → ℕ
+faultOf m = firstOf (headFault m ∷ threadFault (m .g) (m .a) ∷ threadFault (m .g) (m .b) ∷ [])
+
+-- A model is valid if the checks find no fault in it.
+abbrev pub Valid : Model → Type 0
+Valid m = faultOf m ≡ 0
+
+-- Two threads agree in every place that is used.
+pub record SameThread (t u : Thread) : Type 0 where
+  pub first : t .first ≡ u .first
+  pub count : t .count ≡ u .count
+  pub rules : (r : ℕ) → r < t .count → ruleAt t r ≡ ruleAt u r
+
+-- Two models are the same if they agree in all places but the unused ones.
+pub record Same (m n : Model) : Type 0 where
+  pub g : m .g ≡ n .g
+  pub k : m .k ≡ n .k
+  pub start : m .start ≡ n .start
+  pub target : m .target ≡ n .target
+  pub a : SameThread (m .a) (n .a)
+  pub b : SameThread (m .b) (n .b)

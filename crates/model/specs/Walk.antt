@@ -1,0 +1,113 @@
+-- Schedules, and the walk of one from the start, as replay makes it: the first bad step is refused by 9 or 10.
+use mathlib.Core.Bool.{Bool, true, false, _&&_}
+use mathlib.Core.List.{List, [], _∷_}
+use Prim.Native.Nat.{ℕ, zero, suc, _*_}
+use lib.Dec.{leb, ltb}
+use Rattle.model.specs.declared.Model.{Model}
+use Rattle.model.specs.declared.Rule.{Rule}
+use Rattle.model.specs.declared.Thread.{Thread}
+use Rattle.model.specs.Rules.{ruleAt, applies, put}
+
+-- The two threads.
+pub data ThreadId : Type 0 where
+  A B : ThreadId
+
+-- The other thread.
+abbrev pub other : ThreadId → ThreadId
+other A = B
+other B = A
+
+-- A turn (context): any number of steps of one thread. Turns are numbered from 0; even ones are A's.
+abbrev pub ownerOf : ℕ → ThreadId
+ownerOf zero = A
+ownerOf (suc turn) = other (ownerOf turn)
+
+-- The rules of a thread.
+abbrev pub threadOf : ThreadId → Model → Thread
+threadOf A m = m .a
+threadOf B m = m .b
+
+-- Rule number r of the thread whose turn it is.
+abbrev pub ruleOf : Model → ℕ → ℕ → Rule
+ruleOf m turn r = ruleAt (threadOf (ownerOf turn) m) r
+
+-- The two stacks, each with its top first.
+pub record Stacks : Type 0 where
+  pub a : List ℕ
+  pub b : List ℕ
+
+-- The stack of a thread.
+abbrev pub stackOf : ThreadId → Stacks → List ℕ
+stackOf A σ = σ .a
+stackOf B σ = σ .b
+
+-- The stacks with another one for a thread.
+abbrev pub withStack : ThreadId → List ℕ → Stacks → Stacks
+withStack A w σ = record { a = w; b = σ .b }
+withStack B w σ = record { a = σ .a; b = w }
+
+-- A configuration: the turn of the last step (0 before the first), the shared state and the stacks.
+pub record Config : Type 0 where
+  pub turn : ℕ
+  pub shared : ℕ
+  pub stacks : Stacks
+
+-- At the start each stack holds its thread's first symbol, alone.
+abbrev pub startStacks : Model → Stacks
+startStacks m = record { a = m .a .first .0 ∷ []; b = m .b .first .0 ∷ [] }
+
+-- The configuration at the start.
+abbrev pub startOf : Model → Config
+startOf m = record { turn = 0; shared = m .start .0; stacks = startStacks m }
+
+-- A step of a schedule: the turn it is made in, and the number of the rule in that turn's thread's list.
+pub record Step : Type 0 where
+  pub turn : ℕ
+  pub rule : ℕ
+
+-- A schedule as bytes: two for each step, the turn number and then the rule's number.
+abbrev pub bytesOf : List Step → List ℕ
+bytesOf [] = []
+bytesOf (s ∷ ss) = s .turn ∷ s .rule ∷ bytesOf ss
+
+-- What a walk comes to: the number of a refusal, or a configuration.
+pub data Walked : Type 0 where
+  refused : ℕ → Walked
+  arrived : Config → Walked
+
+-- Refusal n where a test fails.
+abbrev pub need : ℕ → Bool → Walked → Walked
+need n true w = w
+need n false w = refused n
+
+-- What follows a walk that was not refused.
+abbrev pub andThen : Walked → (Config → Walked) → Walked
+andThen (refused n) next = refused n
+andThen (arrived c) next = next c
+
+-- A turn number is at most 2K−1 and not below the one before.
+unfoldable pub turnFits : Model → Config → Step → Bool
+turnFits m c s = leb (c .turn) (s .turn) && ltb (s .turn) (2 * m .k)
+
+-- The configuration after a step, where w is the stack of its thread without the top.
+abbrev pub after : Model → Config → Step → List ℕ → Config
+after m c s w =
+    record {
+      turn = s .turn;
+      shared = ruleOf m (s .turn) (s .rule) .after .0;
+      stacks = withStack (ownerOf (s .turn)) (put (ruleOf m (s .turn) (s .rule) .right) w) (c .stacks);
+    }
+
+-- A step, given the stack of its thread: with an empty stack there is none, and its rule must apply (10).
+unfoldable pub fire : Model → Config → Step → List ℕ → Walked
+fire m c s [] = refused 10
+fire m c s (top ∷ w) = need 10 (applies (threadOf (ownerOf (s .turn)) m) (s .rule) (c .shared) top) (arrived (after m c s w))
+
+-- One step of the walk: the turn number first (9), then the rule of that turn's thread (10).
+unfoldable pub stepFrom : Model → Config → Step → Walked
+stepFrom m c s = need 9 (turnFits m c s) (fire m c s (stackOf (ownerOf (s .turn)) (c .stacks)))
+
+-- The walk of a list of steps from a configuration; its first bad step gives the refusal.
+unfoldable pub walk : Model → Config → List Step → Walked
+walk m c [] = arrived c
+walk m c (s ∷ ss) = andThen (stepFrom m c s) (λ d. walk m d ss)
