@@ -1,0 +1,58 @@
+-- What a valid model gives the writer, and the three answers of the call, each with what the store then holds.
+use mathlib.Core.List.{List, _++_}
+use mathlib.Core.Path.{_≡_}
+use Prim.Native.Nat.{ℕ, _≤_, _<_}
+use native.Mathlib.Nat.{zero-add}
+use native.Mathlib.Omega.{arith}
+use lib.ListN.{length, take, drop}
+use lib.Seq.{sets-eq, take-append-seam}
+use borrow.Author.Tests.{ne-eqb, le-leb, lt-leb}
+use Rattle.model.proofs.Ranges.{ThreadFits, valid-fits}
+use Rattle.model.specs.declared.Model.{Model}
+use Rattle.model.specs.declared.Thread.{Thread}
+use Rattle.model.specs.Valid.{Valid, faultOf}
+use Rattle.record.specs.declared.Written.{Written}
+use Rattle.record.specs.declared.Written.the-variants.{Length, Refused}
+use Rattle.record.specs.Put.{Put, Small}
+use Rattle.record.specs.Writer.{recordOf}
+use Rattle.record.specs.Written.{writtenOf, storeOf, holding}
+
+-- A thread in range, of at most four states, is small.
+small : (g : ℕ) (t : Thread) → g ≤ 4 → ThreadFits g t → Small t
+small g t h f =
+    record { count = f .count; halves = λ r k. let rule = f .rules r k in (omega arith, rule .top) }
+
+-- Both threads of a valid model are small.
+pub both-small : (m : Model) → Valid m → Small (m .a) × Small (m .b)
+both-small m h =
+    let f = valid-fits m .0 h in (small (m .g) (m .a) (f .g .1) (f .a), small (m .g) (m .b) (f .g .1) (f .b))
+
+-- Bytes put at the front are the front.
+pub front : {l m : List ℕ} {n : ℕ} (bytes : List ℕ) → Put l m 0 n bytes → length bytes ≤ length l → take n m ≡ bytes
+front {l} {m} {n} bytes p h =
+    rw (p .ends, p .stored, zero-add, sets-eq bytes l 0 (omega arith)) (take-append-seam bytes _)
+
+module _ (m : Model) (store : List ℕ) where
+  -- The answer fixes what the store holds.
+  answer : (r : Written) → r ≡ writtenOf m (length store)
+      → (r ≡ writtenOf m (length store)) × (holding r (recordOf m) store ≡ storeOf m store)
+  unfolding storeOf
+  answer r e = (e, rw (← e))
+
+  -- A model with a fault is refused by it ..
+  pub faulty : {n : ℕ} → n ≡ faultOf m → (n ≡ 0 → ⊥)
+      → (Refused n ≡ writtenOf m (length store)) × (store ≡ storeOf m store)
+  unfolding writtenOf
+  faulty {n} e h = answer (Refused n) (rw (← e, ne-eqb n 0 h))
+
+  -- .. and of a valid one a record that does not fit ..
+  pub short : Valid m → {n : ℕ} → n ≡ length (recordOf m) → length store < n
+      → (Refused 7 ≡ writtenOf m (length store)) × (store ≡ storeOf m store)
+  unfolding writtenOf
+  short v e h = answer (Refused 7) (rw (v, ← e, lt-leb _ _ h))
+
+  -- .. while one that fits is written.
+  pub whole : Valid m → {n : ℕ} → n ≡ length (recordOf m) → n ≤ length store
+      → (Length n ≡ writtenOf m (length store)) × (recordOf m ++ drop n store ≡ storeOf m store)
+  unfolding writtenOf
+  whole v {n} e h = answer (Length n) (rw (v, ← e, le-leb _ _ h))

@@ -1,0 +1,44 @@
+-- The parts of a record at the front: a refusal comes with the zero model, and a part of the bytes is what is left of them.
+use mathlib.Core.Bool.{Bool}
+use mathlib.Core.List.{List}
+use mathlib.Core.Path.{_≡_, refl, sym}
+use Prim.Native.Nat.{ℕ, _+_, _-_, _≤_}
+use native.Mathlib.Omega.{arith}
+use lib.ListN.{length, take, drop, length-drop}
+use lib.Seq.{take-all}
+use Rattle.model.specs.declared.Model.{Model}
+use Rattle.record.specs.declared.Front.{Front}
+use Rattle.record.specs.declared.Place.{Place}
+use Rattle.record.specs.declared.Place.the-variants.{At, Refused}
+use Rattle.record.specs.declared.RuleList.{RuleList}
+use Rattle.record.specs.Reader.{refused, value, front, rules}
+use Rattle.record.specs.Held.{ReadsList, ReadsFront, listed, placed, placeOf, readingOf, zeroModel}
+use Rattle.record.proofs.Parts.{refuses}
+
+-- A refusal comes with the zero model.
+pub refused-front : {s : List ℕ} {r : Front} {n : ℕ} → r ≡ record { answer = Refused n; model = zeroModel }
+    → front s ≡ refused n
+    → ReadsFront s r (front s) × (r .model ≡ readingOf (front s) .model)
+unfolding readingOf
+refused-front e h = rw (e, h) (refuses refl, refl)
+
+-- A model that is read is the one that is answered.
+pub read-front : {s : List ℕ} {m : Model} {n : ℕ} → n ≤ length s → front s ≡ value m (drop n s)
+    → ReadsFront s (record { answer = At n; model = m }) (front s) × (m ≡ readingOf (front s) .model)
+unfolding readingOf
+read-front k h = rw h (record { same = refl; within = k }, refl)
+
+-- The bytes from a place to the end are what is left there.
+whole : (s : List ℕ) (at : ℕ) → at ≤ length s → take (length s - at) (drop at s) ≡ drop at s
+whole s at h = take-all (length s - at) (drop at s) (simp length-drop (omega arith))
+
+-- What was wanted of the rules from a place on, whose answer is known ..
+module _ (s : List ℕ) (at : ℕ) (h : at ≤ length s) (r : RuleList) (present : Bool) (g : ℕ) {p : Place}
+    (reads : ReadsList (take (length s - at) (drop at s)) r (rules present g (take (length s - at) (drop at s))))
+    (e : r .answer ≡ p) where
+  pub list-got : rules present g (drop at s) ≡ placed (drop at s) p (listed r)
+  list-got = rw (whole s at h, e) at (sym (reads .same))
+
+  -- .. and where they end.
+  pub list-ends : at + placeOf p ≤ length s
+  list-ends = let k = rw (whole s at h, e, length-drop) at (reads .within) in omega arith

@@ -1,0 +1,120 @@
+-- The head of a record both ways: field by field, and the map is the sum of the bits of the fields that are not absent.
+use mathlib.Core.Bool.{Bool, not}
+use mathlib.Core.List.{List, _∷_, _++_}
+use mathlib.Core.Path.{_≡_}
+use Prim.Native.Nat.{ℕ, _≤_, _<_, zero-le}
+use native.Mathlib.Omega.{arith}
+use lib.Dec.{T, eqb}
+use Rattle.model.specs.declared.Model.{Model}
+use Rattle.model.proofs.Ranges.{Fits}
+use Rattle.model.proofs.Tests.{passed}
+use Rattle.record.specs.Reader.{value, bit, byte, ranged, field, Head, head}
+use Rattle.record.specs.Writer.{fieldOf, weight, mapOf}
+use Rattle.record.proofs.OneField.{checked, parted, carried, byte-forth}
+use Rattle.record.proofs.OneField.{ranged-back, ranged-forth, field-back, FieldRead, field-forth}
+use Rattle.record.proofs.Maps.{HeadBits, head-bits}
+
+-- The head of a model.
+unfoldable pub headOf : Model → Head
+headOf m =
+    record {
+      map = mapOf m;
+      g = m .g;
+      k = m .k;
+      start = m .start .0;
+      target = m .target .0;
+      a = m .a .first .0;
+      b = m .b .first .0;
+    }
+
+-- The bytes of a head, and what follows it.
+unfoldable pub headWith : Head → List ℕ → List ℕ
+headWith h rest =
+    h .map ∷ (fieldOf 4 (h .g) ++ (fieldOf 2 (h .k) ++ (fieldOf 0 (h .start) ++ (h .target ∷ (fieldOf 0 (h .a) ++ (fieldOf 0 (h .b) ++ rest))))))
+
+-- The bits of a model's map.
+pub map-bits : (m : Model)
+    → HeadBits (mapOf m) (eqb (m .g) 4) (eqb (m .k) 2) (eqb (m .start .0) 0) (eqb (m .a .first .0) 0) (eqb (m .b .first .0) 0) (eqb (m .a .count) 0) (eqb (m .b .count) 0)
+unfolding mapOf weight
+map-bits m = head-bits (eqb (m .g) 4) (eqb (m .k) 2) (eqb (m .start .0) 0) (eqb (m .a .first .0) 0) (eqb (m .b .first .0) 0) (eqb (m .a .count) 0) (eqb (m .b .count) 0)
+
+-- A head that is written is read.
+pub head-back : (m : Model) → Fits m → (rest : List ℕ) → head (headWith (headOf m) rest) ≡ value (headOf m) rest
+unfolding head byte headWith headOf
+head-back m f rest =
+    let b = map-bits m in
+    let g : m .g < 5 = omega (arith, f .g .1) in
+    let k : m .k < 4 = omega (arith, f .k .1) in
+    let first : m .a .first .0 < 16 = omega (arith, f .a .first) in
+    let second : m .b .first .0 < 16 = omega (arith, f .b .first) in
+    rw (
+      b .bit3,
+      field-back 3 4 (m .g) _ (b .bit0) (f .g .0) g,
+      field-back 3 2 (m .k) _ (b .bit1) (f .k .0) k,
+      field-back 3 0 (m .start .0) _ (b .bit2) zero-le (f .start),
+      ranged-back 3 _ zero-le (f .target),
+      field-back 3 0 (m .a .first .0) _ (b .bit4) zero-le first,
+      field-back 3 0 (m .b .first .0) _ (b .bit5) zero-le second,
+    )
+
+-- What reading a head tells, of a map that is a byte.
+pub record HeadRead (bs : List ℕ) (h : Head) (rest : List ℕ) : Type 0 where
+  pub bytes : bs ≡ headWith h rest
+  pub bits : (ra rb : Bool) → bit 6 (h .map) ≡ not ra → bit 7 (h .map) ≡ not rb
+      → HeadBits (h .map) (eqb (h .g) 4) (eqb (h .k) 2) (eqb (h .start) 0) (eqb (h .a) 0) (eqb (h .b) 0) ra rb
+  pub g : (1 ≤ h .g) × (h .g ≤ 4)
+  pub k : (1 ≤ h .k) × (h .k ≤ 3)
+  pub start : h .start < h .g
+  pub target : h .target < h .g
+  pub first : h .a ≤ 15
+  pub second : h .b ≤ 15
+
+-- The parts of a head that were read make its bytes.
+head-made : {map g k start target a b : ℕ} {bs m₁ m₂ m₃ m₄ m₅ m₆ rest : List ℕ}
+    → bs ≡ map ∷ m₁ → T (bit 3 map)
+    → FieldRead (bit 0 map) 1 5 4 g m₁ m₂ → FieldRead (bit 1 map) 1 4 2 k m₂ m₃ → FieldRead (bit 2 map) 0 g 0 start m₃ m₄
+    → (m₄ ≡ target ∷ m₅) × (0 ≤ target) × (target < g)
+    → FieldRead (bit 4 map) 0 16 0 a m₅ m₆ → FieldRead (bit 5 map) 0 16 0 b m₆ rest
+    → HeadRead bs (record { map = map; g = g; k = k; start = start; target = target; a = a; b = b }) rest
+unfolding headWith
+head-made {map} e t g k s d a b =
+    record {
+      bytes = rw (← b .bytes, ← a .bytes, ← d .0, ← s .bytes, ← k .bytes, ← g .bytes) e;
+      bits = λ ra rb p q. record {
+        bit0 = g .stands;
+        bit1 = k .stands;
+        bit2 = s .stands;
+        bit3 = passed (bit 3 map) t;
+        bit4 = a .stands;
+        bit5 = b .stands;
+        bit6 = p;
+        bit7 = q;
+      };
+      g = (g .least, omega (arith, g .most));
+      k = (k .least, omega (arith, k .most));
+      start = s .most;
+      target = d .2;
+      first = omega (arith, a .most);
+      second = omega (arith, b .most);
+    }
+
+-- A head that is read was written so.
+pub head-forth : (bs : List ℕ) {h : Head} {rest : List ℕ} → head bs ≡ value h rest → HeadRead bs h rest
+unfolding head
+head-forth bs e =
+    parted (byte bs) _ e λ map m₁ b₁ e₁.
+    checked 2 (bit 3 map) e₁ λ t e₂.
+    parted (field (bit 0 map) 3 1 5 4 m₁) _ e₂ λ g m₂ b₂ e₃.
+    let fg = field-forth (bit 0 map) 3 1 5 4 m₁ (omega arith) (omega arith) b₂ in
+    parted (field (bit 1 map) 3 1 4 2 m₂) _ e₃ λ k m₃ b₃ e₄.
+    parted (field (bit 2 map) 3 0 g 0 m₃) _ e₄ λ start m₄ b₄ e₅.
+    parted (ranged 3 0 g m₄) _ e₅ λ target m₅ b₅ e₆.
+    parted (field (bit 4 map) 3 0 16 0 m₅) _ e₆ λ a m₆ b₆ e₇.
+    parted (field (bit 5 map) 3 0 16 0 m₆) _ e₇ λ b m₇ b₇ e₈.
+    carried (HeadRead bs) e₈
+    (head-made (byte-forth bs b₁) t fg
+    (field-forth (bit 1 map) 3 1 4 2 m₂ (omega arith) (omega arith) b₃)
+    (field-forth (bit 2 map) 3 0 g 0 m₃ zero-le (fg .least) b₄)
+    (ranged-forth 3 0 g m₄ b₅)
+    (field-forth (bit 4 map) 3 0 16 0 m₅ zero-le (omega arith) b₆)
+    (field-forth (bit 5 map) 3 0 16 0 m₆ zero-le (omega arith) b₇))

@@ -1,0 +1,162 @@
+-- Whole records both ways: part by part, and the map is the sum of the bits of its fields. So every accepted record is
+-- rewritten byte for byte, and every valid model survives writing and reading.
+use mathlib.Core.List.{List, [], _∷_, _++_, append-assoc, append-nil}
+use mathlib.Core.Path.{_≡_, refl, sym, ap, subst, _∙_}
+use Prim.Native.Nat.{ℕ, _-_, _≤_, _<_}
+use native.Mathlib.Omega.{arith}
+use lib.Dec.{eqb}
+use lib.ListN.{length, getD, take, replicate, List·getD-append}
+use lib.Seq.{drop-append-seam, length-take-le, getD-take}
+use Rattle.model.specs.declared.Model.{Model}
+use Rattle.model.specs.declared.Rule.{Rule}
+use Rattle.model.specs.declared.Thread.{Thread}
+use Rattle.model.specs.Rules.{zeroRule}
+use Rattle.model.specs.Valid.{Valid, SameThread, Same}
+use Rattle.model.proofs.Ranges.{valid-fits}
+use Rattle.record.specs.declared.Reading.{Reading}
+use Rattle.record.specs.Kept.{Unused, Kept, Keeps}
+use Rattle.record.specs.Held.{readingOf}
+use Rattle.record.specs.Reader.{Read, refused, value, bit, rules, Head, head, threadOf, modelOf, front, ended, readOf}
+use Rattle.record.specs.Writer.{weight, rulesOf, mapOf, headBytes, recordOf}
+use Rattle.record.proofs.OneField.{apart, parted, carried, value-same}
+use Rattle.record.proofs.Maps.{HeadBits, head-sum}
+use Rattle.record.proofs.ThreadRules.{rules-back, RulesRead, rules-forth, thread-fits, rules-bytes}
+use Rattle.record.proofs.Heads.{headOf, headWith, map-bits, head-back, HeadRead, head-forth}
+
+-- Every model has 64 rule places a thread, as its type says.
+pub record Places (m : Model) : Type 0 where
+  pub a : length (m .a .rules) ≡ 64
+  pub b : length (m .b .rules) ≡ 64
+
+-- A model with its unused places zero.
+pub tidy : Model → Model
+tidy m = modelOf (headOf m) (take (m .a .count) (m .a .rules)) (take (m .b .count) (m .b .rules))
+
+-- A record, as its head and its rules.
+record-bytes : (m : Model) (rest : List ℕ)
+    → recordOf m ++ rest ≡ headWith (headOf m) (rulesOf (m .a) ++ (rulesOf (m .b) ++ rest))
+unfolding recordOf headBytes headWith headOf
+record-bytes m rest = simp append-assoc
+
+-- A record that is written is read.
+pub front-back : (m : Model) → Valid m → Places m → (rest : List ℕ) → front (recordOf m ++ rest) ≡ value (tidy m) rest
+unfolding front headOf tidy
+front-back m v p rest =
+    let f = valid-fits m .0 v in
+    let b = map-bits m in
+    rw (
+      record-bytes m rest,
+      head-back m f (rulesOf (m .a) ++ (rulesOf (m .b) ++ rest)),
+      rules-back (m .a) (f .a) (p .a) (rulesOf (m .b) ++ rest) (b .bit6),
+      rules-back (m .b) (f .b) (p .b) rest (b .bit7),
+    )
+
+-- What reading a record at the front tells.
+pub record FrontRead (bs : List ℕ) (m : Model) (rest : List ℕ) : Type 0 where
+  pub bytes : getD bs 0 0 < 256 → bs ≡ recordOf m ++ rest
+  pub valid : Valid m
+  pub unusedA : Unused (m .a)
+  pub unusedB : Unused (m .b)
+
+-- The map of the model that was read is the map that was read.
+same-map : (h : Head) (ra rb : List Rule) → h .map < 256
+    → HeadBits (h .map) (eqb (h .g) 4) (eqb (h .k) 2) (eqb (h .start) 0) (eqb (h .a) 0) (eqb (h .b) 0) (eqb (length ra) 0) (eqb (length rb) 0)
+    → mapOf (modelOf h ra rb) ≡ h .map
+unfolding mapOf weight
+same-map h ra rb k b = head-sum (h .map) k b
+
+-- Head and rules that were read make the record.
+front-made : {bs m₁ m₂ rest : List ℕ} {h : Head} {ra rb : List Rule} → HeadRead bs h m₁
+    → RulesRead (h .g) (bit 6 (h .map)) m₁ ra m₂ → RulesRead (h .g) (bit 7 (h .map)) m₂ rb rest
+    → FrontRead bs (modelOf h ra rb) rest
+unfolding headOf headWith
+front-made {bs} {m₁} {m₂} {rest} {h} {ra} {rb} hd a b =
+    record {
+      bytes = λ k.
+          let small : h .map < 256 = subst (λ l. getD l 0 0 < 256) (hd .bytes) k in
+          let map = same-map h ra rb small (hd .bits (eqb (length ra) 0) (eqb (length rb) 0) (a .stands) (b .stands)) in
+          rw (record-bytes (modelOf h ra rb) rest, map, rules-bytes (h .b) rb rest, ← b .bytes, rules-bytes (h .a) ra m₂, ← a .bytes) (hd .bytes);
+      valid = valid-fits (modelOf h ra rb) .1
+          (record {
+            g = hd .g;
+            k = hd .k;
+            start = hd .start;
+            target = hd .target;
+            a = thread-fits (h .g) (h .a) ra (hd .first) (a .most) (a .fits);
+            b = thread-fits (h .g) (h .b) rb (hd .second) (b .most) (b .fits);
+          });
+      unusedA = drop-append-seam ra (replicate (64 - length ra) zeroRule);
+      unusedB = drop-append-seam rb (replicate (64 - length rb) zeroRule);
+    }
+
+-- A record that is read was written so.
+pub front-forth : (bs : List ℕ) {m : Model} {rest : List ℕ} → front bs ≡ value m rest → FrontRead bs m rest
+unfolding front
+front-forth bs e =
+    parted (head bs) _ e λ h m₁ b₁ e₁.
+    parted (rules (bit 6 (h .map)) (h .g) m₁) _ e₁ λ ra m₂ b₂ e₂.
+    parted (rules (bit 7 (h .map)) (h .g) m₂) _ e₂ λ rb m₃ b₃ e₃.
+    carried (FrontRead bs) e₃ (front-made (head-forth bs b₁) (rules-forth (bit 6 (h .map)) (h .g) m₁ b₂) (rules-forth (bit 7 (h .map)) (h .g) m₂ b₃))
+
+-- Nothing is left of a whole record.
+whole : {m n : Model} (bs rest : List ℕ) → ended n bs ≡ value m rest → (bs ≡ []) × (n ≡ m)
+whole [] rest e = (refl, value-same e .0)
+whole (b ∷ bs) rest e = apart e
+
+-- Every accepted record is rewritten byte for byte.
+pub read-kept : (bs : List ℕ) {m : Model} {rest : List ℕ} → readOf bs ≡ value m rest → getD bs 0 0 < 256 → Kept bs m
+unfolding readOf
+read-kept bs e k =
+    parted (front bs) ended e λ n mid b f.
+    let w = whole mid _ f in
+    let r = front-forth bs b in
+    subst (Kept bs) (w .1)
+    (record {
+      valid = r .valid;
+      unusedA = r .unusedA;
+      unusedB = r .unusedB;
+      rewritten = sym (r .bytes k ∙ ap (λ l. recordOf n ++ l) (w .0) ∙ append-nil (recordOf n));
+    })
+
+-- A thread with its unused places zero is the same thread.
+tidy-same : (t : Thread) → length (t .rules) ≡ 64 → t .count ≤ 64
+    → SameThread t (threadOf (t .first .0) (take (t .count) (t .rules)))
+tidy-same t n k =
+    let used : List Rule = take (t .count) (t .rules) in
+    let size : length used ≡ t .count = length-take-le (t .count) (t .rules) (omega arith) in
+    record {
+      first = refl;
+      count = sym size;
+      rules = λ r h. sym (List·getD-append used (replicate (64 - length used) zeroRule) zeroRule r (omega arith) ∙ getD-take (t .count) (t .rules) r zeroRule h);
+    }
+
+-- Every valid model survives writing and reading, as the same model with its unused places zero.
+pub written-read : (m : Model) → Valid m → Places m → (readOf (recordOf m) ≡ value (tidy m) []) × Same m (tidy m)
+unfolding readOf tidy headOf
+written-read m v p =
+    let f = valid-fits m .0 v in
+    let e : front (recordOf m) ≡ value (tidy m) [] = rw append-nil at (front-back m v p []) in (
+      rw e,
+      record {
+        g = refl;
+        k = refl;
+        start = refl;
+        target = refl;
+        a = tidy-same (m .a) (p .a) (f .a .count);
+        b = tidy-same (m .b) (p .b) (f .b .count);
+      },
+    )
+
+-- The reading of bytes keeps what it accepts.
+pub keeps : (bs : List ℕ) → getD bs 0 0 < 256 → Keeps (readingOf (readOf bs)) bs
+unfolding readingOf
+keeps bs k = go (readOf bs) refl
+  where
+    go : (r : Read Model) → readOf bs ≡ r → Keeps (readingOf r) bs
+    go (refused n) e = tt
+    go (value m rest) e = read-kept bs e k
+
+-- An answer that is the reading of bytes keeps what it accepts.
+pub kept-too : (bs : List ℕ) {r : Reading} → getD bs 0 0 < 256 → r ≡ readingOf (readOf bs)
+    → (r ≡ readingOf (readOf bs)) × Keeps r bs
+kept-too bs k e = (e, subst (λ r. Keeps r bs) (sym e) (keeps bs k))

@@ -1,0 +1,75 @@
+-- The rules of a thread both ways: a count that is a field with default 0, and then a list of so many rules.
+use mathlib.Core.Bool.{Bool, not}
+use mathlib.Core.List.{List, [], _∷_, _++_, append-assoc}
+use mathlib.Core.Path.{_≡_, subst}
+use Prim.Native.Nat.{ℕ, zero, suc, _-_, _≤_, _<_, zero-le}
+use native.Mathlib.Omega.{arith}
+use lib.Dec.{eqb}
+use lib.ListN.{length, getD, take, replicate}
+use lib.Seq.{take-append-seam, length-take-le}
+use Rattle.model.specs.declared.Rule.{Rule}
+use Rattle.model.specs.declared.Thread.{Thread}
+use Rattle.model.specs.Rules.{zeroRule}
+use Rattle.model.proofs.Ranges.{RuleFits, ThreadFits}
+use Rattle.record.specs.Reader.{value, field, ruleList, rules, threadOf}
+use Rattle.record.specs.Writer.{fieldOf, ruleListOf, rulesOf}
+use Rattle.record.proofs.OneField.{parted, field-back, field-forth}
+use Rattle.record.proofs.RuleLists.{RulesFit, list-back, list-forth}
+
+-- Rules in range one by one are in range as a list.
+fit-list : (g n : ℕ) (l : List Rule) → ((r : ℕ) → r < n → RuleFits g (getD l r zeroRule)) → RulesFit g (take n l)
+fit-list g zero l f = tt
+fit-list g (suc n) [] f = tt
+fit-list g (suc n) (x ∷ xs) f = (f 0 (omega arith), fit-list g n xs (λ r h. f (suc r) (omega arith)))
+
+-- The rules of a thread that are written are read.
+pub rules-back : {g : ℕ} (t : Thread) → ThreadFits g t → length (t .rules) ≡ 64 → (rest : List ℕ) {present : Bool}
+    → present ≡ not (eqb (t .count) 0)
+    → rules present g (rulesOf t ++ rest) ≡ value (take (t .count) (t .rules)) rest
+unfolding rules rulesOf
+rules-back {g} t f n rest e =
+    let rs : List Rule = take (t .count) (t .rules) in
+    let size : length rs ≡ t .count = length-take-le (t .count) (t .rules) (omega (arith, f .count)) in
+    let most : t .count < 65 = omega (arith, f .count) in
+    rw (append-assoc (fieldOf 0 (t .count)) (ruleListOf rs) rest, field-back 4 0 (t .count) (ruleListOf rs ++ rest) e zero-le most)
+    (subst (λ k. ruleList g k (ruleListOf rs ++ rest) ≡ value rs rest) size (list-back g rs (fit-list g (t .count) (t .rules) (f .rules)) rest))
+
+-- What reading the rules of a thread tells.
+pub record RulesRead (g : ℕ) (present : Bool) (bs : List ℕ) (rs : List Rule) (rest : List ℕ) : Type 0 where
+  pub bytes : bs ≡ fieldOf 0 (length rs) ++ (ruleListOf rs ++ rest)
+  pub stands : present ≡ not (eqb (length rs) 0)
+  pub most : length rs ≤ 64
+  pub fits : RulesFit g rs
+
+-- Rules that are read were written so.
+pub rules-forth : (present : Bool) (g : ℕ) (bs : List ℕ) {rs : List Rule} {rest : List ℕ}
+    → rules present g bs ≡ value rs rest → RulesRead g present bs rs rest
+unfolding rules
+rules-forth present g bs {rs} {rest} e =
+    parted (field present 4 0 65 0 bs) _ e λ n mid b f.
+    let c = field-forth present 4 0 65 0 bs zero-le (omega arith) b in
+    let l = list-forth g n mid f in
+    record {
+      bytes = rw (l .size, ← l .bytes) (c .bytes);
+      stands = rw (l .size) (c .stands);
+      most = omega (arith, l .size, c .most);
+      fits = l .fits;
+    }
+
+-- Rules in range as a list are in range one by one, whatever follows them.
+fit-at : (g : ℕ) (rs more : List Rule) → RulesFit g rs → (r : ℕ) → r < length rs → RuleFits g (getD (rs ++ more) r zeroRule)
+fit-at g [] more f r h = absurd (omega arith)
+fit-at g (x ∷ xs) more f zero h = f .0
+fit-at g (x ∷ xs) more f (suc r) h = fit-at g xs more (f .1) r (omega arith)
+
+-- A thread that was read is in range.
+pub thread-fits : (g first : ℕ) (rs : List Rule) → first ≤ 15 → length rs ≤ 64 → RulesFit g rs
+    → ThreadFits g (threadOf first rs)
+thread-fits g first rs h k f = record { first = h; count = k; rules = fit-at g rs (replicate (64 - length rs) zeroRule) f }
+
+-- The bytes of a thread's rules that were read.
+pub rules-bytes : (first : ℕ) (rs : List Rule) (rest : List ℕ)
+    → rulesOf (threadOf first rs) ++ rest ≡ fieldOf 0 (length rs) ++ (ruleListOf rs ++ rest)
+unfolding rulesOf
+rules-bytes first rs rest =
+    rw (take-append-seam rs (replicate (64 - length rs) zeroRule), append-assoc (fieldOf 0 (length rs)) (ruleListOf rs) rest)

@@ -1,0 +1,201 @@
+-- `front` meets its contract: the head, and then the rules of each thread from the bytes that the part before them left.
+use Prim.Native.Nat.{_+_, _≤_}
+use native.Mathlib.Omega.{arith}
+use lib.ListN.{length}
+use lib.Seq.{drop-drop}
+use Rattle.record.specs.Reader.{front}
+use Rattle.record.proofs.Fronts.{refused-front, read-front, list-got, list-ends}
+use borrow.Author.Needs.{needs}
+use Rattle.record.proofs.reader.front.Statement.{statement}
+use Rattle.record.proofs.reader.front.Tie as tie
+
+-- Where the head ends, ..
+head-end : (c : tie.After-known-told)
+    → c .before .x .given .0 .0 .at ≤ length (c .before .before .before .before .before .args .bytes .now)
+head-end c = rw (c .before .x .given .1) at (c .before .before .before .read-head .ensures .within)
+
+-- .. A's rules, ..
+a-end : (c : tie.After-known-told3)
+    → let h = c .before .before .before .before .before .before in
+    let s = h .before .before .before .before .before .args .bytes .now in
+    h .before .x .given .0 .0 .at + c .before .place-a .given .0 .0 ≤ length s
+a-end c =
+    let h = c .before .before .before .before .before .before in
+    let a = c .before .before .before .read-rules in
+    let s = h .before .before .before .before .before .args .bytes .now in
+    list-ends s _ (head-end h) (a .result) _ _ (a .ensures .0) (c .before .place-a .given .1)
+
+-- .. and B's.
+b-end : (c : tie.After-known-told5)
+    → let la = c .before .before .before .before .before .before in
+    let h = la .before .before .before .before .before .before in
+    let s = h .before .before .before .before .before .args .bytes .now in
+    h .before .x .given .0 .0 .at + la .before .place-a .given .0 .0 + c .before .place-b .given .0 .0 ≤ length s
+b-end c =
+    let la = c .before .before .before .before .before .before in
+    let b = c .before .before .before .read-rules2 in
+    let h = la .before .before .before .before .before .before in
+    let s = h .before .before .before .before .before .args .bytes .now in
+    list-ends s _ (a-end la) (b .result) _ _ (b .ensures .0) (c .before .place-b .given .1)
+
+read-head-requires : tie.Need-read-head-requires
+read-head-requires c κs = search needs
+
+enum-known-x : tie.Need-enum-known-x
+enum-known-x c = search needs
+
+enum-known-n : tie.Need-enum-known-n
+enum-known-n c = search needs
+
+refusal-requires : tie.Need-refusal-requires
+refusal-requires c κs = search needs
+
+returns : tie.Need-returns
+unfolding front
+returns c =
+    let h = c .before in
+    refused-front (c .refusal .ensures)
+    (rw (← h .before .before .before .read-head .ensures .same, h .before .n .given .1))
+
+sub-read-rules : tie.Need-sub-read-rules
+sub-read-rules c = head-end c
+
+part-read-rules-start : tie.Need-part-read-rules-start
+part-read-rules-start c = head-end c
+
+part-read-rules-end : tie.Need-part-read-rules-end
+part-read-rules-end c = search needs
+
+read-rules-requires : tie.Need-read-rules-requires
+read-rules-requires c κs = search needs
+
+enum-known-place-a : tie.Need-enum-known-place-a
+enum-known-place-a c = search needs
+
+enum-known-place-a-2 : tie.Need-enum-known-place-a-2
+enum-known-place-a-2 c = search needs
+
+refusal-requires-2 : tie.Need-refusal-requires-2
+refusal-requires-2 c κs = search needs
+
+returns-2 : tie.Need-returns-2
+unfolding front
+returns-2 c =
+    let la = c .before in
+    let h = la .before .before .before .before .before .before in
+    let a = la .before .before .before .read-rules in
+    let s = h .before .before .before .before .before .args .bytes .now in
+    refused-front (c .refusal2 .ensures)
+    (rw (
+      ← h .before .before .before .read-head .ensures .same,
+      h .before .x .given .1,
+      list-got s _ (head-end h) (a .result) _ _ (a .ensures .0) (la .before .place-a2 .given .1),
+    ))
+
+add-from : tie.Need-add-from
+add-from c = omega (arith, a-end c)
+
+sub-read-rules-2 : tie.Need-sub-read-rules-2
+sub-read-rules-2 c = a-end c
+
+part-read-rules-start-2 : tie.Need-part-read-rules-start-2
+part-read-rules-start-2 c = a-end c
+
+part-read-rules-end-2 : tie.Need-part-read-rules-end-2
+part-read-rules-end-2 c = search needs
+
+read-rules-requires-2 : tie.Need-read-rules-requires-2
+read-rules-requires-2 c κs = search needs
+
+enum-known-place-b : tie.Need-enum-known-place-b
+enum-known-place-b c = search needs
+
+enum-known-place-b-2 : tie.Need-enum-known-place-b-2
+enum-known-place-b-2 c = search needs
+
+refusal-requires-3 : tie.Need-refusal-requires-3
+refusal-requires-3 c κs = search needs
+
+returns-3 : tie.Need-returns-3
+unfolding front
+returns-3 c =
+    let lb = c .before in
+    let b = lb .before .before .before .read-rules2 in
+    let la = lb .before .before .before .before .before .before in
+    let h = la .before .before .before .before .before .before in
+    let a = la .before .before .before .read-rules in
+    let s = h .before .before .before .before .before .args .bytes .now in
+    refused-front (c .refusal3 .ensures)
+    (rw (
+      ← h .before .before .before .read-head .ensures .same,
+      h .before .x .given .1,
+      list-got s _ (head-end h) (a .result) _ _ (a .ensures .0) (la .before .place-a .given .1),
+      drop-drop,
+      list-got s _ (a-end la) (b .result) _ _ (b .ensures .0) (lb .before .place-b2 .given .1),
+    ))
+
+thread-requires : tie.Need-thread-requires
+thread-requires c κs = search needs
+
+thread-requires-2 : tie.Need-thread-requires-2
+thread-requires-2 c κs = search needs
+
+add-t21 : tie.Need-add-t21
+add-t21 c =
+    let lb = c .before .before in
+    let la = lb .before .before .before .before .before .before in
+    let h = la .before .before .before .before .before .before in
+    let start = h .before .before .before .before .before in
+    omega (arith, b-end lb, start .good)
+
+returns-4 : tie.Need-returns-4
+unfolding front
+returns-4 c =
+    let lb = c .before .before in
+    let b = lb .before .before .before .read-rules2 in
+    let la = lb .before .before .before .before .before .before in
+    let h = la .before .before .before .before .before .before in
+    let a = la .before .before .before .read-rules in
+    let s = h .before .before .before .before .before .args .bytes .now in
+    read-front (b-end lb)
+    (rw (
+      c .before .thread .ensures,
+      c .thread2 .ensures,
+      ← h .before .before .before .read-head .ensures .same,
+      h .before .x .given .1,
+      list-got s _ (head-end h) (a .result) _ _ (a .ensures .0) (la .before .place-a .given .1),
+      drop-drop,
+      list-got s _ (a-end la) (b .result) _ _ (b .ensures .0) (lb .before .place-b .given .1),
+      drop-drop,
+    ))
+
+pub front-spec : {M : Type 1} → statement M
+front-spec =
+    tie.close
+    (tie.spec
+    read-head-requires
+    enum-known-x
+    enum-known-n
+    refusal-requires
+    returns
+    sub-read-rules
+    part-read-rules-start
+    part-read-rules-end
+    read-rules-requires
+    enum-known-place-a
+    enum-known-place-a-2
+    refusal-requires-2
+    returns-2
+    add-from
+    sub-read-rules-2
+    part-read-rules-start-2
+    part-read-rules-end-2
+    read-rules-requires-2
+    enum-known-place-b
+    enum-known-place-b-2
+    refusal-requires-3
+    returns-3
+    thread-requires
+    thread-requires-2
+    add-t21
+    returns-4)

@@ -1,0 +1,59 @@
+-- `write` meets its contract: each way out has its answer, and what is copied is the front of the buffer, the record.
+use borrow.Author.Needs.{needs}
+use mathlib.Core.Path.{sym, _∙_}
+use native.Mathlib.Omega.{arith}
+use Rattle.model.specs.Valid.{Valid}
+use Rattle.record.proofs.Answers.{both-small, front, faulty, short, whole}
+use Rattle.record.proofs.Lengths.{at-most}
+use Rattle.record.proofs.write.Statement.{statement}
+use Rattle.record.proofs.write.Tie as tie
+
+fault-requires : tie.Need-fault-requires
+fault-requires c κs = search needs
+
+returns : tie.Need-returns
+returns c = faulty _ _ (c .before .fault .ensures) (c .if1 .taken)
+
+-- Past the first test the model is valid.
+valid : (c : tie.Else1) → Valid (c .before .before .before .args .m)
+valid c = sym (c .before .fault .ensures) ∙ c .if1 .left
+
+slice-aggregate-put-record : tie.Need-slice-aggregate-put-record
+slice-aggregate-put-record c = search needs
+
+put-record-requires : tie.Need-put-record-requires
+put-record-requires c κs =
+    let small = both-small _ (valid (c .before)) in (small .0, small .1, at-most _ (valid (c .before)))
+
+returns-2 : tie.Need-returns-2
+returns-2 c = short _ _ (valid (c .before .before .before .before)) (omega arith) (c .if2 .taken)
+
+slice-aggregate-copy : tie.Need-slice-aggregate-copy
+slice-aggregate-copy c = search needs
+
+copy-requires : tie.Need-copy-requires
+copy-requires c κs = (omega (arith, at-most _ (valid (c .before .before .before .before .before .before))), search needs)
+
+same-length : tie.Need-same-length
+same-length c = search needs
+
+returns-3 : tie.Need-returns-3
+returns-3 c =
+    let put = c .before .before .before .before .before .before .before in
+    let ok = valid (put .before .before) in
+    rw (c .before .before .copy .ensures, front _ (put .put-record .ensures) (at-most _ ok))
+    (whole _ _ ok (omega arith) (c .before .before .before .before .before .if2 .left))
+
+pub write-spec : {M : Type 1} → statement M
+write-spec =
+    tie.close
+    (tie.spec
+    fault-requires
+    returns
+    slice-aggregate-put-record
+    put-record-requires
+    returns-2
+    slice-aggregate-copy
+    copy-requires
+    same-length
+    returns-3)

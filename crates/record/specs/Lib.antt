@@ -1,0 +1,6 @@
+pub mod Held
+pub mod Kept
+pub mod Put
+pub mod Reader
+pub mod Writer
+pub mod Written

@@ -1,0 +1,154 @@
+-- The model record as it is read: from left to right, and the first fault gives the refusal.
+use mathlib.Core.Bool.{Bool, true, false, not, _&&_, _||_}
+use mathlib.Core.List.{List, [], _∷_, _++_}
+use Prim.Native.Nat.{ℕ, zero, suc, _-_, _/_, _%_, _^_}
+use lib.Dec.{leb, ltb, eqb}
+use lib.ListN.{length, replicate}
+use Rattle.model.specs.declared.Model.{Model}
+use Rattle.model.specs.declared.Right.{Right}
+use Rattle.model.specs.declared.Right.the-variants.{Remove, Swap, Push}
+use Rattle.model.specs.declared.Rule.{Rule}
+use Rattle.model.specs.declared.Thread.{Thread}
+use Rattle.model.specs.Rules.{zeroRule}
+
+-- Reading at the front of a list of bytes: a refusal's number, or a value and the bytes left.
+pub data Read (A : Type 0) : Type 0 where
+  refused : ℕ → Read A
+  value : A → List ℕ → Read A
+
+-- What is read after a part that was not refused.
+abbrev pub andThen : {A B : Type 0} → Read A → (A → List ℕ → Read B) → Read B
+andThen (refused n) next = refused n
+andThen (value a rest) next = next a rest
+
+-- Refusal n where a test fails.
+abbrev pub need : {A : Type 0} → ℕ → Bool → Read A → Read A
+need n true r = r
+need n false r = refused n
+
+-- Bit i of a map byte stands, the lowest being bit 0.
+abbrev pub bit : ℕ → ℕ → Bool
+bit i map = eqb (map / 2 ^ i % 2) 1
+
+-- A number is at least `low` and below `limit`.
+abbrev pub inRange : ℕ → ℕ → ℕ → Bool
+inRange low limit b = leb low b && ltb b limit
+
+-- One byte; 1 where the record ends before it.
+unfoldable pub byte : List ℕ → Read ℕ
+byte [] = refused 1
+byte (b ∷ rest) = value b rest
+
+-- A byte in range, or refusal n.
+unfoldable pub ranged : ℕ → ℕ → ℕ → List ℕ → Read ℕ
+ranged n low limit bs = andThen (byte bs) (λ b rest. need n (inRange low limit b) (value b rest))
+
+-- A field with a bit in the map: absent, it has its default; else a byte in range that does not say what absence would (5).
+unfoldable pub field : Bool → ℕ → ℕ → ℕ → ℕ → List ℕ → Read ℕ
+field false n low limit default bs = value default bs
+field true n low limit default bs =
+    andThen (ranged n low limit bs) (λ b rest. need 5 (not (eqb b default)) (value b rest))
+
+-- A rule's map has bits 0 to 2 alone, and bit 2 only beside bit 1.
+abbrev pub ruleMap : ℕ → Bool
+ruleMap map = ltb map 8 && (bit 1 map || not (bit 2 map))
+
+-- A new symbol of a rule.
+abbrev pub symbol : List ℕ → Read ℕ
+symbol bs = ranged 4 0 16 bs
+
+-- The new symbols of a rule, by whether there is a first and a second.
+unfoldable pub right : Bool → Bool → List ℕ → Read Right
+right false second bs = value Remove bs
+right true false bs = andThen (symbol bs) (λ a rest. value (Swap (record { 0 = a })) rest)
+right true true bs =
+    andThen (symbol bs) (λ a rest.
+    andThen (symbol rest) (λ b rest. value (Push (record { 0 = a }) (record { 0 = b })) rest))
+
+-- A rule: its map; its before state and symbol in the halves of one byte; the after state, by default the before state;
+-- the new symbols.
+unfoldable pub rule : ℕ → List ℕ → Read Rule
+rule g bs =
+    andThen (byte bs) (λ map rest.
+    need 4 (ruleMap map)
+    (andThen (byte rest) (λ pair rest.
+    need 4 (ltb (pair / 16) g)
+    (andThen (field (bit 0 map) 4 0 g (pair / 16) rest) (λ next rest.
+    andThen (right (bit 1 map) (bit 2 map) rest) (λ new rest.
+    value
+    (record {
+      before = record { 0 = pair / 16 };
+      symbol = record { 0 = pair % 16 };
+      after = record { 0 = next };
+      right = new;
+    })
+    rest))))))
+
+-- So many rules, one after another.
+unfoldable pub ruleList : ℕ → ℕ → List ℕ → Read (List Rule)
+ruleList g zero bs = value [] bs
+ruleList g (suc n) bs = andThen (rule g bs) (λ r rest. andThen (ruleList g n rest) (λ rs rest. value (r ∷ rs) rest))
+
+-- The rules of a thread: a count of at most 64 (4) that is not 0 (5), and then the rules; none where the bit is absent.
+unfoldable pub rules : Bool → ℕ → List ℕ → Read (List Rule)
+rules present g bs = andThen (field present 4 0 65 0 bs) (λ n rest. ruleList g n rest)
+
+-- The head fields, and the map, whose last two bits stand for the rule lists.
+pub record Head : Type 0 where
+  pub map : ℕ
+  pub g : ℕ
+  pub k : ℕ
+  pub start : ℕ
+  pub target : ℕ
+  pub a : ℕ
+  pub b : ℕ
+
+-- The head after its map, G and K: the two states, and the first symbols.
+abbrev pub headRest : ℕ → ℕ → ℕ → List ℕ → Read Head
+headRest map g k bs =
+    andThen (field (bit 2 map) 3 0 g 0 bs) (λ start rest.
+    andThen (ranged 3 0 g rest) (λ target rest.
+    andThen (field (bit 4 map) 3 0 16 0 rest) (λ a rest.
+    andThen (field (bit 5 map) 3 0 16 0 rest) (λ b rest.
+    value (record { map = map; g = g; k = k; start = start; target = target; a = a; b = b }) rest))))
+
+-- The head: the map, whose bit 3 stands (2), and the head fields in bit order.
+unfoldable pub head : List ℕ → Read Head
+head bs =
+    andThen (byte bs) (λ map rest.
+    need 2 (bit 3 map)
+    (andThen (field (bit 0 map) 3 1 5 4 rest) (λ g rest.
+    andThen (field (bit 1 map) 3 1 4 2 rest) (λ k rest. headRest map g k rest))))
+
+-- A thread with a first symbol and these rules; the unused places are zero.
+abbrev pub threadOf : ℕ → List Rule → Thread
+threadOf first rs =
+    record { first = record { 0 = first }; count = length rs; rules = rs ++ replicate (64 - length rs) zeroRule }
+
+-- The model of a head and two lists of rules.
+abbrev pub modelOf : Head → List Rule → List Rule → Model
+modelOf h ra rb =
+    record {
+      g = h .g;
+      k = h .k;
+      start = record { 0 = h .start };
+      target = record { 0 = h .target };
+      a = threadOf (h .a) ra;
+      b = threadOf (h .b) rb;
+    }
+
+-- The record at the front of a list: the head, then A's rules and B's.
+unfoldable pub front : List ℕ → Read Model
+front bs =
+    andThen (head bs) (λ h rest.
+    andThen (rules (bit 6 (h .map)) (h .g) rest) (λ ra rest.
+    andThen (rules (bit 7 (h .map)) (h .g) rest) (λ rb rest. value (modelOf h ra rb) rest)))
+
+-- Nothing is left after the last field (6).
+abbrev pub ended : Model → List ℕ → Read Model
+ended m [] = value m []
+ended m (b ∷ rest) = refused 6
+
+-- A whole record.
+unfoldable pub readOf : List ℕ → Read Model
+readOf bs = andThen (front bs) ended

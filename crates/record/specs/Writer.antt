@@ -1,0 +1,62 @@
+-- The model record as it is written: the map, then each field that does not say what its absence would.
+use mathlib.Core.Bool.{cond}
+use mathlib.Core.List.{List, [], _∷_, _++_}
+use Prim.Native.Nat.{ℕ, _+_, _*_, _^_}
+use lib.Dec.{eqb}
+use lib.ListN.{take}
+use Rattle.model.specs.declared.Model.{Model}
+use Rattle.model.specs.declared.Right.{Right}
+use Rattle.model.specs.declared.Right.the-variants.{Remove, Swap, Push}
+use Rattle.model.specs.declared.Rule.{Rule}
+use Rattle.model.specs.declared.Thread.{Thread}
+
+-- A field's byte, unless it is the default.
+unfoldable pub fieldOf : ℕ → ℕ → List ℕ
+fieldOf default v = cond (eqb v default) [] (v ∷ [])
+
+-- What a field's bit i adds to the map: nothing where the field is absent.
+unfoldable pub weight : ℕ → ℕ → ℕ → ℕ
+weight i default v = cond (eqb v default) 0 (2 ^ i)
+
+-- The new symbols of a rule, and their bits.
+abbrev pub symbolsOf : Right → List ℕ
+symbolsOf Remove = []
+symbolsOf (Swap a) = a .0 ∷ []
+symbolsOf (Push a b) = a .0 ∷ b .0 ∷ []
+
+-- The bits of the new symbols in a rule's map.
+abbrev pub symbolBits : Right → ℕ
+symbolBits Remove = 0
+symbolBits (Swap a) = 2
+symbolBits (Push a b) = 6
+
+-- A rule: map, before state and symbol in one byte, the after state unless it is the before state, the new symbols.
+unfoldable pub ruleOf : Rule → List ℕ
+ruleOf r =
+    (weight 0 (r .before .0) (r .after .0) + symbolBits (r .right)) ∷ (r .before .0 * 16 + r .symbol .0) ∷
+    fieldOf (r .before .0) (r .after .0) ++ symbolsOf (r .right)
+
+-- Rules one after another.
+unfoldable pub ruleListOf : List Rule → List ℕ
+ruleListOf [] = []
+ruleListOf (r ∷ rs) = ruleOf r ++ ruleListOf rs
+
+-- The rules of a thread: their count and then each, or nothing where there is none.
+unfoldable pub rulesOf : Thread → List ℕ
+rulesOf t = fieldOf 0 (t .count) ++ ruleListOf (take (t .count) (t .rules))
+
+-- The map of a model: bit 3 always stands.
+unfoldable pub mapOf : Model → ℕ
+mapOf m =
+    weight 0 4 (m .g) + weight 1 2 (m .k) + weight 2 0 (m .start .0) + 8 + weight 4 0 (m .a .first .0) +
+    weight 5 0 (m .b .first .0) + weight 6 0 (m .a .count) + weight 7 0 (m .b .count)
+
+-- The map and the head fields.
+unfoldable pub headBytes : Model → List ℕ
+headBytes m =
+    mapOf m ∷ fieldOf 4 (m .g) ++ fieldOf 2 (m .k) ++ fieldOf 0 (m .start .0) ++ m .target .0 ∷
+    fieldOf 0 (m .a .first .0) ++ fieldOf 0 (m .b .first .0)
+
+-- The record of a model.
+unfoldable pub recordOf : Model → List ℕ
+recordOf m = headBytes m ++ rulesOf (m .a) ++ rulesOf (m .b)

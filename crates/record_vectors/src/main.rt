@@ -1,0 +1,137 @@
+// Runs document 01's records and a file of random ones through the reader and the writer, and compares.
+use model::Model;
+use record::Answer;
+use record::Written;
+use vectors::Tally;
+
+// The number of a record's answer: 0 where it is accepted.
+fn number(bytes: &[u8]) -> u8 {
+    let reading = record::read(bytes);
+    let answer = reading.answer;
+    match answer {
+        Answer::Accepted => 0,
+        Answer::Refused(n) => n,
+    }
+}
+
+// A write that gave just this length.
+fn wrote(answer: Written, length: usize) -> bool {
+    match answer {
+        Written::Length(n) => n == length,
+        Written::Refused(_) => false,
+    }
+}
+
+// A write that was refused for a short store.
+fn too_short(answer: Written) -> bool {
+    match answer {
+        Written::Length(_) => false,
+        Written::Refused(n) => n == 7,
+    }
+}
+
+// A model whose record is known: it is written byte for byte, the bytes past it are kept, it is read again, and a store one
+// byte short is refused and left as it was. The store is filled with 170 beforehand.
+fn rewritten(m: Model, bytes: &[u8], store: &mut [u8]) -> bool {
+    let n = bytes.len();
+    if n == 0 {
+        return false;
+    }
+    if store.len() <= n {
+        return false;
+    }
+    let short = n - 1;
+    if !too_short(record::write(m, &mut store[0..short])) {
+        return false;
+    }
+    if !vectors::filled(store, 170) {
+        return false;
+    }
+    if !wrote(record::write(m, store), n) {
+        return false;
+    }
+    if !vectors::filled(&store[n..], 170) {
+        return false;
+    }
+    if !check::same(&store[0..n], bytes) {
+        return false;
+    }
+    number(&store[0..n]) == 0
+}
+
+// A record gets this answer, and where that is 0 it survives.
+fn agrees(bytes: &[u8], answer: u8) -> bool {
+    if number(bytes) != answer {
+        return false;
+    }
+    if answer != 0 {
+        return true;
+    }
+    let reading = record::read(bytes);
+    let m = reading.model;
+    let mut store = [170u8; 700];
+    rewritten(m, bytes, &mut store)
+}
+
+// The records of document 01: model One and Two, those of rows 1 to 6, the empty one.
+fn document() -> Tally {
+    let mut t = Tally::new();
+    t = t.counted(agrees(&[75, 2, 1, 1, 1, 1, 0, 1], 0));
+    t = t.counted(agrees(
+        &[200, 3, 3, 6, 0, 0, 0, 1, 0, 1, 1, 32, 3, 1, 3, 16, 2, 0],
+        0,
+    ));
+    t = t.counted(agrees(&[8, 0], 0));
+    t = t.counted(agrees(&[], 1));
+    t = t.counted(agrees(&[75, 2], 1));
+    t = t.counted(agrees(&[0], 2));
+    t = t.counted(agrees(&[9, 5, 0], 3));
+    t = t.counted(agrees(&[72, 0, 1, 8, 0], 4));
+    t = t.counted(agrees(&[9, 4, 0], 5));
+    t = t.counted(agrees(&[8, 0, 0], 6));
+    t = t.counted(agrees(&[72, 0, 1, 8], 4));
+    t.counted(agrees(&[9, 4], 5))
+}
+
+// Records whose thread A has so many rules, each of two zero bytes: 64 are accepted, 65 refused by 4, and 0 by 5.
+fn counts() -> Tally {
+    let mut bytes = [0u8; 133];
+    bytes[0] = 72;
+    let mut t = Tally::new();
+    t = t.counted(agrees(&bytes[..3], 5));
+    bytes[2] = 64;
+    t = t.counted(agrees(&bytes[..131], 0));
+    t = t.counted(agrees(&bytes[..130], 1));
+    bytes[2] = 65;
+    t.counted(agrees(&bytes, 4))
+}
+
+// One case of the file after another: a record with its length, and its answer.
+fn corpus(s: &[u8]) -> Tally {
+    let mut t = Tally::new();
+    let mut at = 0;
+    while at < s.len() {
+        let part = vectors::part_at(s, at);
+        let start = part.start;
+        let end = part.end;
+        t = t.counted(agrees(&s[start..end], vectors::byte_at(s, end)));
+        if end < at {
+            return t;
+        }
+        at = end + 1;
+    }
+    t
+}
+
+// The cases of the file, which the store has room for.
+fn file(store: &mut [u8]) {
+    let n = vectors::load(b"records.bin", store);
+    corpus(&store[0..n]).report(b"records.bin");
+}
+
+fn main() {
+    document().report(b"document 01");
+    counts().report(b"rule counts");
+    let mut store = [0u8; 270000];
+    file(&mut store);
+}
