@@ -55,6 +55,16 @@ pub fn byte_at(s: &[u8], at: usize) -> u8 {
     if at < s.len() { s[at] } else { 0 }
 }
 
+// The byte so many places further on, or 0 past the end.
+pub fn byte_after(s: &[u8], at: usize, more: usize) -> u8 {
+    if at < s.len() {
+        let left = s.len() - at;
+        if more < left { s[at + more] } else { 0 }
+    } else {
+        0
+    }
+}
+
 fn wide(b: u8) -> usize
     ensures { λ r. ⌜ r < 256 ⌝ }
 {

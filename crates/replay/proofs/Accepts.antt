@@ -1,0 +1,110 @@
+-- Replay accepts exactly the legal schedules: bytes of even length are the bytes of their steps, and a walk that is not
+-- refused is a run.
+use mathlib.Core.Bool.{Bool, true, false, cond}
+use mathlib.Core.List.{List, [], _∷_}
+use mathlib.Core.Logic.{_↔_}
+use mathlib.Core.Path.{_≡_, refl, sym, ap}
+use Prim.Native.Nat.{ℕ, zero, suc, _*_, _%_, _≤_}
+use native.Mathlib.Omega.{arith}
+use lib.Dec.{T, eqb}
+use lib.ListN.{length}
+use Rattle.model.specs.declared.Model.{Model}
+use Rattle.model.specs.declared.Shared.{Shared}
+use Rattle.model.specs.Runs.{Leads}
+use Rattle.model.specs.Valid.{Valid, faultOf}
+use Rattle.model.specs.Walk.{Step, bytesOf, Config, Walked, refused, arrived, startOf, walk}
+use Rattle.model.proofs.Tests.{tests, passed}
+use Rattle.replay.specs.declared.Replayed.{Replayed}
+use Rattle.replay.specs.declared.Replayed.the-variants.{Accepted, Refused}
+use Rattle.replay.specs.Replay.{stepsOf, sizeFits, answer, unlessFault, replayOf}
+
+-- The steps of a schedule's bytes are the schedule.
+pub steps-bytes : (ss : List Step) → stepsOf (bytesOf ss) ≡ ss
+unfolding stepsOf
+steps-bytes [] = refl
+steps-bytes (s ∷ ss) = ap (λ l. s ∷ l) (steps-bytes ss)
+
+-- A schedule has two bytes a step.
+pub length-bytes : (ss : List Step) → length (bytesOf ss) ≡ 2 * length ss
+length-bytes [] = refl
+length-bytes (s ∷ ss) = omega (arith, length-bytes ss)
+
+-- Bytes of even length are the bytes of their steps.
+pub bytes-steps : (bs : List ℕ) → length bs % 2 ≡ 0 → bytesOf (stepsOf bs) ≡ bs
+unfolding stepsOf
+bytes-steps [] e = refl
+bytes-steps (t ∷ []) e = absurd (omega arith)
+bytes-steps (t ∷ r ∷ rest) e = ap (λ l. t ∷ r ∷ l) (bytes-steps rest (omega arith))
+
+-- Bytes are a legal schedule of at most 4,095 steps of a valid model, whose last shared state is g; `reached` says whether
+-- that is the target.
+pub record Legally (m : Model) (bs : List ℕ) (g : ℕ) (reached : Bool) : Type 0 where
+  pub valid : Valid m
+  pub steps : List Step
+  pub bytes : bs ≡ bytesOf steps
+  pub most : length steps ≤ 4095
+  pub leads : Leads m steps g
+  pub target : reached ≡ eqb g (m .target .0)
+
+-- The bytes of at most 4,095 steps fit in size.
+fits : (ss : List Step) → length ss ≤ 4095 → T (sizeFits (bytesOf ss))
+unfolding sizeFits
+fits ss h = simp tests (rw length-bytes (omega arith), rw length-bytes (omega arith))
+
+-- A refusal accepts nothing.
+apart : {X : Type 0} {n : ℕ} {g : Shared} {reached : Bool} → Refused n ≡ Accepted g reached → X
+apart {X} {n} {g} {reached} e = let z : _≡_ {A = ℕ} 0 1 = cc in absurd (omega arith)
+
+-- What is accepted has no fault, fits in size, and its walk arrived.
+faultless : (n : ℕ) {r : Replayed} {g : Shared} {reached : Bool} → unlessFault n r ≡ Accepted g reached
+    → (n ≡ 0) × (r ≡ Accepted g reached)
+faultless zero e = (refl, e)
+faultless (suc n) e = apart e
+
+sized : (test : Bool) {r : Replayed} {g : Shared} {reached : Bool} → cond test r (Refused 8) ≡ Accepted g reached
+    → T test × (r ≡ Accepted g reached)
+sized true e = (tt, e)
+sized false e = apart e
+
+walked : (m : Model) (w : Walked) {g : Shared} {reached : Bool} → answer m w ≡ Accepted g reached
+    → (c : Config) × (w ≡ arrived c) × (c .shared ≡ g .0) × (reached ≡ eqb (g .0) (m .target .0))
+walked m (refused n) e = apart e
+walked m (arrived c) {g} {reached} e =
+    let shared : record { 0 = c .shared } ≡ g = cc in
+    let same : c .shared ≡ g .0 = ap (λ (s : Shared). s .0) shared in
+    let test : reached ≡ eqb (c .shared) (m .target .0) = cc in
+    (c, refl, same, rw (← same) test)
+
+-- Replay accepts exactly the legal schedules, with the last state of their runs.
+pub accepts : (m : Model) (bs : List ℕ) (g : Shared) (reached : Bool)
+    → (replayOf m bs ≡ Accepted g reached) ↔ Legally m bs (g .0) reached
+unfolding replayOf sizeFits
+accepts m bs g reached = (to, from)
+  where
+    to : replayOf m bs ≡ Accepted g reached → Legally m bs (g .0) reached
+    to e =
+        let f = faultless (faultOf m) e in
+        let s = sized (sizeFits bs) (f .1) in
+        let z = simp tests at (s .0) in
+        let w = walked m (walk m (startOf m) (stepsOf bs)) (s .1) in
+        let same = bytes-steps bs (z .0) in
+        record {
+          valid = f .0;
+          steps = stepsOf bs;
+          bytes = sym same;
+          most = omega (arith, length-bytes (stepsOf bs), ap length same, z .1);
+          leads = record { last = w .0; walked = w .1; ends = w .2 };
+          target = w .3;
+        }
+
+    from : Legally m bs (g .0) reached → replayOf m bs ≡ Accepted g reached
+    from l =
+        rw (
+          l .valid,
+          l .bytes,
+          passed (sizeFits (bytesOf (l .steps))) (fits (l .steps) (l .most)),
+          steps-bytes (l .steps),
+          l .leads .walked,
+          l .leads .ends,
+          l .target,
+        )

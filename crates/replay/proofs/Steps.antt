@@ -1,0 +1,62 @@
+-- A step of the walk, decided test by test: its turn number first, then the step of the thread whose turn it is.
+use mathlib.Core.Bool.{Bool, true, false, cond}
+use mathlib.Core.List.{List, [], _∷_}
+use mathlib.Core.Path.{_≡_, refl}
+use Prim.Native.Nat.{ℕ, zero, suc, _*_, _%_, _<_, _≤_}
+use native.Mathlib.Omega.{arith}
+use borrow.Author.Tests.{le-ltb, lt-ltb, le-leb, lt-leb}
+use Rattle.model.specs.declared.Model.{Model}
+use Rattle.model.specs.Rules.{applies}
+use Rattle.model.specs.Walk.{ThreadId, A, B, ownerOf, threadOf, stackOf, withStack, Config, Step}
+use Rattle.model.specs.Walk.{Walked, refused, arrived, need, turnFits, fire, stepFrom}
+use Rattle.replay.specs.Stack.{Moved, stuck, moved, moveOf}
+
+-- Even turns are A's ..
+pub even-turn : (t : ℕ) → t % 2 ≡ 0 → ownerOf t ≡ A
+even-turn zero h = refl
+even-turn (suc zero) h = absurd (omega arith)
+even-turn (suc (suc t)) h = rw (even-turn t (omega arith))
+
+-- .. and odd ones are B's.
+pub odd-turn : (t : ℕ) → (t % 2 ≡ 0 → ⊥) → ownerOf t ≡ B
+odd-turn zero h = absurd (h refl)
+odd-turn (suc zero) h = refl
+odd-turn (suc (suc t)) h = rw (odd-turn t (λ e. h (omega arith)))
+
+-- What the step of a thread comes to as a step of the walk.
+abbrev pub carried : ThreadId → Config → Step → Moved → Walked
+carried i c s stuck = refused 10
+carried i c s (moved g w) = arrived (record { turn = s .turn; shared = g; stacks = withStack i w (c .stacks) })
+
+-- A rule that does not apply is refused either way.
+decides : (i : ThreadId) (c : Config) (s : Step) (b : Bool) (g : ℕ) (w : List ℕ)
+    → need 10 b (carried i c s (moved g w)) ≡ carried i c s (cond b (moved g w) stuck)
+decides i c s true g w = refl
+decides i c s false g w = refl
+
+module _ (m : Model) (c : Config) (s : Step) where
+  -- A turn number below the one before is refused ..
+  pub falls : s .turn < c .turn → refused 9 ≡ stepFrom m c s
+  unfolding stepFrom turnFits
+  falls h = rw (lt-leb (c .turn) (s .turn) h)
+
+  -- .. and so is one above 2K−1.
+  pub late : c .turn ≤ s .turn → 2 * m .k ≤ s .turn → refused 9 ≡ stepFrom m c s
+  unfolding stepFrom turnFits
+  late h k = rw (le-leb (c .turn) (s .turn) h, le-ltb (s .turn) (2 * m .k) k)
+
+  -- The step that the definition has in terms of the model is that of the thread.
+  fires : (i : ThreadId) → ownerOf (s .turn) ≡ i → (w : List ℕ)
+      → fire m c s w ≡ carried i c s (moveOf (threadOf i m) (s .rule) (c .shared) w)
+  unfolding fire moveOf
+  fires i e [] = refl
+  fires i e (top ∷ w) = rw e (decides i c s (applies (threadOf i m) (s .rule) (c .shared) top) _ _)
+
+  -- Any other turn is the step of its thread i, which comes to x.
+  pub comes : (i : ThreadId) → ownerOf (s .turn) ≡ i → c .turn ≤ s .turn → s .turn < 2 * m .k
+      → {x : Moved} → x ≡ moveOf (threadOf i m) (s .rule) (c .shared) (stackOf i (c .stacks))
+      → carried i c s x ≡ stepFrom m c s
+  unfolding stepFrom turnFits
+  comes i e h k p =
+      let f = fires i e (stackOf (ownerOf (s .turn)) (c .stacks)) in
+      rw (le-leb (c .turn) (s .turn) h, lt-ltb (s .turn) (2 * m .k) k, f, e, ← p)

@@ -1,0 +1,2 @@
+pub mod Replay
+pub mod Stack

@@ -1,0 +1,106 @@
+// Replays document 01's schedules and a file of random ones, and compares.
+use replay::Replayed;
+use vectors::Tally;
+
+// A schedule of the model that a record holds gets this answer: 0 with the last shared state and whether it is the target,
+// or a refusal's number.
+fn agrees(bytes: &[u8], schedule: &[u8], answer: u8, last: u8, target: bool) -> bool {
+    let reading = record::read(bytes);
+    let m = reading.model;
+    match replay::replay(m, schedule) {
+        Replayed::Accepted(shared, reached) => answer == 0 && shared.0 == last && reached == target,
+        Replayed::Refused(n) => n == answer,
+    }
+}
+
+// Schedules of model Two, at K=2 and at K=1.
+fn document() -> Tally {
+    let two = [200u8, 3, 3, 6, 0, 0, 0, 1, 0, 1, 1, 32, 3, 1, 3, 16, 2, 0];
+    let once = [
+        202u8,
+        1,
+        3,
+        3,
+        6,
+        0,
+        0,
+        0,
+        1,
+        0,
+        1,
+        1,
+        32,
+        3,
+        1,
+        3,
+        16,
+        2,
+        0,
+    ];
+    let mut t = Tally::new();
+    t = t.counted(agrees(&two, &[0, 0, 0, 1, 1, 0, 2, 2], 0, 3, true));
+    t = t.counted(agrees(&two, &[], 0, 0, false));
+    t = t.counted(agrees(&two, &[0], 8, 0, false));
+    t = t.counted(agrees(&once, &[2, 0], 9, 0, false));
+    t = t.counted(agrees(&two, &[0, 2], 10, 0, false));
+    t = t.counted(agrees(&two, &[0, 3], 10, 0, false));
+    t = t.counted(agrees(&two, &[4, 0], 9, 0, false));
+    t = t.counted(agrees(&two, &[0, 1, 1, 0, 0, 2], 9, 0, false));
+    // A's stack is empty after its step: B goes on, and A takes no step.
+    t = t.counted(agrees(&two, &[0, 1, 1, 0], 0, 2, false));
+    t.counted(agrees(&two, &[0, 1, 1, 0, 2, 2], 10, 0, false))
+}
+
+// The longest schedules: 4,095 steps that push, or that keep the top; one step more is refused.
+fn longest() -> Tally {
+    let push = [72u8, 1, 1, 6, 0, 0, 0];
+    let keep = [72u8, 0, 1, 2, 0, 0];
+    let zeros = [0u8; 8192];
+    let mut t = Tally::new();
+    t = t.counted(agrees(&push, &zeros[..8190], 0, 0, false));
+    t = t.counted(agrees(&push, &zeros, 8, 0, false));
+    t = t.counted(agrees(&keep, &zeros[..8190], 0, 0, true));
+    t = t.counted(agrees(&keep, &zeros[..8189], 8, 0, false));
+    t.counted(agrees(&keep, &zeros, 8, 0, false))
+}
+
+// One case of the file after another: a record and a schedule with their lengths, and the answer in three bytes.
+fn corpus(s: &[u8]) -> Tally {
+    let mut t = Tally::new();
+    let mut at = 0;
+    while at < s.len() {
+        let model = vectors::part_at(s, at);
+        let start = model.start;
+        let end = model.end;
+        let schedule = vectors::part_at(s, end);
+        let from = schedule.start;
+        let to = schedule.end;
+        let last = vectors::byte_after(s, to, 1);
+        let target = vectors::byte_after(s, to, 2) == 1;
+        t = t.counted(agrees(
+            &s[start..end],
+            &s[from..to],
+            vectors::byte_at(s, to),
+            last,
+            target,
+        ));
+        if to < at {
+            return t;
+        }
+        at = to + 3;
+    }
+    t
+}
+
+// The cases of the file, which the store has room for.
+fn file(store: &mut [u8]) {
+    let n = vectors::load(b"schedules.bin", store);
+    corpus(&store[0..n]).report(b"schedules.bin");
+}
+
+fn main() {
+    document().report(b"document 01");
+    longest().report(b"longest schedules");
+    let mut store = [0u8; 370000];
+    file(&mut store);
+}
