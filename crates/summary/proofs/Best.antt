@@ -1,0 +1,54 @@
+-- At an entry that some stretch meets exactly, its first move is tight: the entries of its parts add up to the entry, since
+-- neither part can be shorter than its entry and the table is closed.
+use mathlib.Core.List.{List}
+use mathlib.Core.Path.{_≡_}
+use Prim.Native.Nat.{ℕ, _+_}
+use native.Mathlib.Omega.{arith}
+use lib.ListN.{length}
+use Rattle.model.specs.declared.Right.{Right}
+use Rattle.model.specs.declared.Right.the-variants.{Remove, Swap, Push}
+use Rattle.model.specs.declared.Symbol.{Symbol}
+use Rattle.summary.specs.Stretch.{End, pop, stay, Stretch}
+use Rattle.summary.proofs.Tables.{Ranged, Closed, bounded}
+
+module _ {C S : Type 0} (Move : C → ℕ → S → Right → C → Type 0) (Switch : C → C → Type 0) (T : C → ℕ → End C → ℕ) where
+  -- A first move whose entries add up, with the places that its parts have.
+  pub data Best (Ctl : C → Type 0) : C → ℕ → End C → Type 0 where
+    here : {c : C} {γ : ℕ} → T c γ (stay c) ≡ 0 → Best Ctl c γ (stay c)
+    remove : {c c₁ : C} {γ : ℕ} {s : S} → Move c γ s Remove c₁ → T c γ (pop c₁) ≡ 1 → Best Ctl c γ (pop c₁)
+    swap : {c c₁ : C} {γ : ℕ} {s : S} {a : Symbol} {d : End C}
+        → Move c γ s (Swap a) c₁ → T c γ d ≡ 1 + T c₁ (a .0) d → Best Ctl c γ d
+    both : {c c₁ q : C} {γ : ℕ} {s : S} {a b : Symbol} {d : End C}
+        → Move c γ s (Push a b) c₁ → Ctl q → T c γ d ≡ 1 + T c₁ (a .0) (pop q) + T q (b .0) d → Best Ctl c γ d
+    above : {c c₁ q : C} {γ : ℕ} {s : S} {a b : Symbol}
+        → Move c γ s (Push a b) c₁ → T c γ (stay q) ≡ 1 + T c₁ (a .0) (stay q) → Best Ctl c γ (stay q)
+    change : {c c₁ : C} {γ : ℕ} {d : End C} → Switch c c₁ → T c γ d ≡ T c₁ γ d → Best Ctl c γ d
+
+  -- A stretch of just as many steps as its entry says has a tight first move.
+  pub best : {Ctl : C → Type 0} {Sym : ℕ → Type 0} → Ranged Move Switch Ctl Sym → Closed Move Switch Ctl Sym T
+      → {c : C} {γ : ℕ} {d : End C} {ss rest : List S} → Ctl c → Sym γ
+      → Stretch Move Switch c γ d ss rest → T c γ d + length rest ≡ length ss → Best Ctl c γ d
+  best R K {c} {γ} p q Stretch.here e = let z : T c γ (stay c) ≡ 0 = omega arith in here z
+  best R K {c} {γ} p q (Stretch.remove {c₁ = c₁} m) e =
+      let h = K .remove p q m in let z : T c γ (pop c₁) ≡ 1 = omega arith in remove m z
+  best R K {c} {γ} {d} p q (Stretch.swap {c₁ = c₁} {a = a} m r) e =
+      let i = R .moves p m in
+      let h = bounded _ _ _ _ R K (i .0) (i .1) r in
+      let z : T c γ d ≡ 1 + T c₁ (a .0) d = omega (arith, h .most, K .swap d p q (h .place) m (h .reached) .most) in
+      swap m z
+  best R K {c} {γ} {d} p q (Stretch.both {c₁ = c₁} {q = u} {a = a} {b = b} m r t) e =
+      let i = R .moves p m in
+      let h = bounded _ _ _ _ R K (i .0) (i .1 .0) r in
+      let k = bounded _ _ _ _ R K (h .place) (i .1 .1) t in
+      let l = K .both u d p q (h .place) (k .place) m (h .reached) (k .reached) in
+      let z : T c γ d ≡ 1 + T c₁ (a .0) (pop u) + T u (b .0) d = omega (arith, h .most, k .most, l .most) in
+      both m (h .place) z
+  best R K {c} {γ} p q (Stretch.above {c₁ = c₁} {q = u} {a = a} m r) e =
+      let i = R .moves p m in
+      let h = bounded _ _ _ _ R K (i .0) (i .1 .0) r in
+      let z : T c γ (stay u) ≡ 1 + T c₁ (a .0) (stay u) = omega (arith, h .most, K .above u p q (h .place) m (h .reached) .most) in
+      above m z
+  best R K {c} {γ} {d} p q (Stretch.change {c₁ = c₁} s r) e =
+      let h = bounded _ _ _ _ R K (R .switches p s) q r in
+      let z : T c γ d ≡ T c₁ γ d = omega (arith, h .most, K .change γ d p q (h .place) s (h .reached) .most) in
+      change s z

@@ -1,0 +1,168 @@
+-- A table in which the edges of a thread hold is closed under the thread's moves and turn ends: each way that a stretch
+-- can go on is one edge, by the number of turn ends inside its parts.
+use mathlib.Core.List.{List}
+use mathlib.Core.Path.{_≡_, refl, sym, ap, _∙_}
+use Prim.Native.Nat.{ℕ, suc, _+_, _-_, _≤_, _<_}
+use native.Mathlib.Nat.{add-zero}
+use native.Mathlib.Decide.{decLe}
+use native.Mathlib.Omega.{arith}
+use borrow.Author.Tests.{le-leb, lt-leb}
+use Rattle.model.specs.declared.Right.{Right}
+use Rattle.model.specs.declared.Right.the-variants.{Remove, Swap, Push}
+use Rattle.model.specs.declared.Symbol.{Symbol}
+use Rattle.model.specs.declared.Thread.{Thread}
+use Rattle.model.specs.Walk.{Step}
+use Rattle.model.proofs.Inside.{applies-iff}
+use Rattle.model.proofs.Ranges.{RightFits, ThreadFits}
+use Rattle.summary.specs.Cells.{plain, laneOf, first, second, rest, blank, plainBy}
+use Rattle.summary.specs.Cells.{laneBy, crossBy, LaneRule, CrossRule, FirstEnds, SecondEnds, Rules, Plain}
+use Rattle.summary.specs.Control.{Control, TurnEnd, Moves, Switches, dest, atEnd, entry, InTable, Inside}
+use Rattle.summary.specs.Edges.{Edge, cell, Holds}
+use Rattle.summary.specs.Stretch.{End, pop, stay, endOf}
+use Rattle.summary.proofs.Tables.{AtMost, Symbols, Ranged, Closed}
+use Rattle.summary.proofs.Joins.{blank-here, dest-low, RuleReady, at, remove-at, swap-at, above-at, both-at, changed}
+
+-- The edges that hold in a table, by the number of turn ends of the line.
+pub record Ready (t : Thread) (G n : ℕ) (ends : ℕ → TurnEnd) (tab : List ℕ) : Type 0 where
+  pub low : (k : ℕ) → k < first → cell tab k ≤ blank k
+  pub plains : (e : Edge) → Plain t G e → Holds tab e
+  pub ends1 : 1 ≤ n → (e : Edge) → FirstEnds G e → Holds tab e
+  pub lanes1 : 1 ≤ n → (e : Edge) → Rules t (LaneRule first G) e → Holds tab e
+  pub ends2 : 2 ≤ n → (e : Edge) → SecondEnds (ends 0 .leave) (ends 0 .enter) e → Holds tab e
+  pub cross2 : 2 ≤ n → (e : Edge) → Rules t (CrossRule (laneOf (ends 0 .leave) (ends 0 .enter)) G) e → Holds tab e
+  pub lanes2 : 2 ≤ n → (e : Edge) → Rules t (LaneRule second G) e → Holds tab e
+
+module _ {t : Thread} {G n : ℕ} (turnOf : ℕ → ℕ) {ends : ℕ → TurnEnd} {tab : List ℕ} (fits : ThreadFits G t) (four : G ≤ 4) (two : n ≤ 2)
+    (inside : Inside G n ends) (R : Ready t G n ends tab) where
+  -- Controls and symbols that the table has places for.
+  abbrev pub Ctl : Control → Type 0
+  Ctl c = InTable G n c
+
+  abbrev pub Sym : ℕ → Type 0
+  Sym γ = γ ≤ 16
+
+  -- The edges of the rule of a move.
+  ready : {c d : Control} {γ : ℕ} {s : Step} {x : Right} → Moves t turnOf c γ s x d
+      → RuleReady G n ends tab (c .shared) γ (d .shared) x
+  ready {c} {d} {γ} {s} {x} m =
+      record {
+        plains = moved (plainBy G) (R .plains);
+        lanes1 = λ h. moved (laneBy first G) (R .lanes1 h);
+        cross2 = λ h. moved (crossBy (laneOf (ends 0 .leave) (ends 0 .enter)) G) (R .cross2 h);
+        lanes2 = λ h. moved (laneBy second G) (R .lanes2 h);
+      }
+    where
+      moved : (F : ℕ → ℕ → ℕ → Right → Edge → Type 0)
+          → ((e : Edge) → Rules t (λ r. F (r .before .0) (r .symbol .0) (r .after .0) (r .right)) e → Holds tab e)
+          → (e : Edge) → F (c .shared) γ (d .shared) x e → Holds tab e
+      moved F h e f =
+          let a = applies-iff t (s .rule) (c .shared) γ .0 (m .rule) in
+          h e (record { i = s .rule; inside = a .listed; at = rw (a .state, a .symbol, m .right, ← m .shared) f })
+
+  -- The entry of a stretch with k turn ends inside.
+  entry-at : (c : Control) (γ : ℕ) (d : End Control) (j k : ℕ) → c .passed ≡ j → j + k ≡ atEnd d .passed
+      → entry ends tab c γ d ≡ cell tab (at ends k j (c .shared) γ (dest d))
+  entry-at c γ d j k p e =
+      let h : c .passed ≤ atEnd d .passed = omega arith in
+      let g : atEnd d .passed - c .passed ≡ k = omega arith in
+      rw (le-leb (c .passed) (atEnd d .passed) h, g) (ap (λ i. cell tab (at ends k i (c .shared) γ (dest d))) p)
+
+  -- An entry that is reached has a number of turn ends inside.
+  gap : (c : Control) (γ : ℕ) (d : End Control) → entry ends tab c γ d ≤ 4096 → (k : ℕ) × (c .passed + k ≡ atEnd d .passed)
+  gap c γ d h =
+      elim (decLe (c .passed) (atEnd d .passed)) [
+        | yes l ↦ (atEnd d .passed - c .passed, omega arith)
+        | no l ↦ absurd (omega (arith, rw (lt-leb (c .passed) (atEnd d .passed) (omega arith)) at h))
+      ]
+
+  -- The cell that is 0.
+  at-rest : cell tab rest ≡ 0
+  unfolding blank
+  at-rest = let h = R .low 4 (omega arith) in omega arith
+
+  -- The table has a place for each move and turn end.
+  pub ranged : Ranged (Moves t turnOf) (Switches ends n) Ctl Sym
+  ranged =
+      record {
+        moves = λ {c} {c₁} {γ} {s} {x} p m. moves p m;
+        switches = λ {c} {c₁} p s. (omega (arith, s .more, s .passed), rw (s .enter) (inside (c .passed) (s .more) .1));
+      }
+    where
+      low : (x : Right) → RightFits x → Symbols Sym x
+      low Remove f = tt
+      low (Swap a) f = omega arith
+      low (Push a b) f = (omega arith, omega arith)
+
+      moves : {c c₁ : Control} {γ : ℕ} {s : Step} {x : Right} → Ctl c → Moves t turnOf c γ s x c₁ → Ctl c₁ × Symbols Sym x
+      moves {c} {c₁} {γ} {s} {x} p m =
+          let r = fits .rules (s .rule) (applies-iff t (s .rule) (c .shared) γ .0 (m .rule) .listed) in
+          ((omega (arith, m .passed), rw (m .shared) (r .next)), low x (rw (m .right) at (r .symbols)))
+
+  -- The table is closed.
+  pub closed : Closed (Moves t turnOf) (Switches ends n) Ctl Sym (entry ends tab)
+  closed =
+      record {
+        here = here;
+        remove = remove;
+        swap = swap;
+        both = both;
+        above = above;
+        change = change;
+      }
+    where
+      here : (c : Control) (γ : ℕ) → Ctl c → Sym γ → AtMost (entry ends tab c γ (stay c)) 0
+      here c γ p q =
+          let h = R .low (plain (c .shared) γ (4 + c .shared)) (omega arith) in
+          let b = blank-here (c .shared) γ (omega arith) q in
+          rw (entry-at c γ (stay c) (c .passed) 0 refl (add-zero (c .passed))) (record { reached = omega arith; most = omega arith })
+
+      remove : {c c₁ : Control} {γ : ℕ} {s : Step} → Ctl c → Sym γ → Moves t turnOf c γ s Remove c₁
+          → AtMost (entry ends tab c γ (pop c₁)) 1
+      remove {c} {c₁} {γ} p q m =
+          rw (entry-at c γ (pop c₁) (c .passed) 0 refl (add-zero (c .passed) ∙ sym (m .passed)))
+          (remove-at tab four two inside at-rest (c .passed) (ready m))
+
+      swap : {c c₁ : Control} {γ : ℕ} {s : Step} {a : Symbol} (d : End Control) → Ctl c → Sym γ → Ctl (endOf d)
+          → Moves t turnOf c γ s (Swap a) c₁ → entry ends tab c₁ (a .0) d ≤ 4096
+          → AtMost (entry ends tab c γ d) (1 + entry ends tab c₁ (a .0) d)
+      swap {c} {c₁} {γ} {a = a} d p q o m h =
+          let k = gap c₁ (a .0) d h in
+          let one = entry-at c γ d (c .passed) (k .0) refl (ap (λ i. i + k .0) (sym (m .passed)) ∙ k .1) in
+          let two′ = entry-at c₁ (a .0) d (c .passed) (k .0) (m .passed) (ap (λ i. i + k .0) (sym (m .passed)) ∙ k .1) in
+          rw (one, two′) (swap-at tab four two inside at-rest (k .0) (c .passed) (dest d) (omega arith) (dest-low d four o) (ready m) (rw two′ at h))
+
+      both : {c c₁ : Control} {γ : ℕ} {s : Step} {a b : Symbol} (q : Control) (d : End Control) → Ctl c → Sym γ
+          → Ctl q → Ctl (endOf d)
+          → Moves t turnOf c γ s (Push a b) c₁ → entry ends tab c₁ (a .0) (pop q) ≤ 4096 → entry ends tab q (b .0) d ≤ 4096
+          → AtMost (entry ends tab c γ d) (1 + entry ends tab c₁ (a .0) (pop q) + entry ends tab q (b .0) d)
+      both {c} {c₁} {γ} {a = a} {b = b} q d p z o y m h g =
+          let i = gap c₁ (a .0) (pop q) h in
+          let k = gap q (b .0) d g in
+          let from : c .passed + i .0 ≡ q .passed = ap (λ j. j + i .0) (sym (m .passed)) ∙ i .1 in
+          let all = entry-at c γ d (c .passed) (i .0 + k .0) refl (omega (arith, k .1)) in
+          let one = entry-at c₁ (a .0) (pop q) (c .passed) (i .0) (m .passed) from in
+          let other = entry-at q (b .0) d (q .passed) (k .0) refl (k .1) in
+          rw (all, one, other)
+          (both-at tab four two inside at-rest (i .0) (k .0) (c .passed) (q .passed) (q .shared) (dest d) from (omega (arith, k .1)) (o .1) (dest-low d four y) (ready m)
+          (rw one at h) (rw other at g))
+
+      above : {c c₁ : Control} {γ : ℕ} {s : Step} {a b : Symbol} (q : Control) → Ctl c → Sym γ → Ctl q
+          → Moves t turnOf c γ s (Push a b) c₁ → entry ends tab c₁ (a .0) (stay q) ≤ 4096
+          → AtMost (entry ends tab c γ (stay q)) (1 + entry ends tab c₁ (a .0) (stay q))
+      above {c} {c₁} {γ} {a = a} q p z o m h =
+          let k = gap c₁ (a .0) (stay q) h in
+          let from : c .passed + k .0 ≡ q .passed = ap (λ j. j + k .0) (sym (m .passed)) ∙ k .1 in
+          let one = entry-at c γ (stay q) (c .passed) (k .0) refl from in
+          let other = entry-at c₁ (a .0) (stay q) (c .passed) (k .0) (m .passed) from in
+          rw (one, other) (above-at tab four two inside at-rest (k .0) (c .passed) (q .shared) (omega arith) (omega arith) (ready m) (rw other at h))
+
+      change : {c c₁ : Control} (γ : ℕ) (d : End Control) → Ctl c → Sym γ → Ctl (endOf d)
+          → Switches ends n c c₁ → entry ends tab c₁ γ d ≤ 4096 → AtMost (entry ends tab c γ d) (entry ends tab c₁ γ d)
+      change {c} {c₁} γ d p q o s h =
+          let k = gap c₁ γ d h in
+          let end : c .passed + suc (k .0) ≡ atEnd d .passed = omega (arith, k .1, s .passed) in
+          let one = entry-at c γ d (c .passed) (suc (k .0)) refl end in
+          let other = entry-at c₁ γ d (suc (c .passed)) (k .0) (s .passed) (omega arith) in
+          rw (one, other)
+          (changed tab four two inside at-rest (k .0) (c .passed) γ (dest d) (c .shared) (c₁ .shared) (s .leave) (s .enter) (omega arith) q (dest-low d four o) (R .ends1)
+          (R .ends2) (rw other at h))

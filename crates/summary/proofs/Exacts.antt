@@ -1,0 +1,118 @@
+-- A solved table is exact: its edges hold, so no entry is above what a stretch needs; and each count followed by edges, so
+-- some stretch has it.
+use mathlib.Core.List.{List, [], append-nil}
+use mathlib.Core.Logic.{inl, inr}
+use mathlib.Core.Path.{_≡_, refl, ap}
+use Prim.Native.Nat.{ℕ, zero, suc, _+_, _-_, _≤_, _<_, min}
+use native.Mathlib.Decide.{decLe}
+use native.Mathlib.Omega.{arith}
+use lib.ListN.{length}
+use borrow.Author.Tests.{le-leb, lt-leb}
+use Rattle.model.specs.declared.Thread.{Thread}
+use Rattle.model.specs.Walk.{Step}
+use Rattle.model.proofs.Ranges.{ThreadFits}
+use Rattle.summary.specs.Cells.{first, second, size, blank, Plain, First, Second, Solved}
+use Rattle.summary.specs.Control.{Control, TurnEnd, Moves, Switches, dest, atEnd, placeOf, entry, InTable, Inside, Summed}
+use Rattle.summary.specs.Edges.{cell, From}
+use Rattle.summary.specs.Stretch.{End, endOf, Stretch}
+use Rattle.summary.specs.Table.{Uses}
+use Rattle.summary.proofs.Complete.{Ready, ranged, closed}
+use Rattle.summary.proofs.Joins.{dest-low}
+use Rattle.summary.proofs.Relaxing.{wider}
+use Rattle.summary.proofs.Sound.{sound}
+use Rattle.summary.proofs.Tables.{bounded}
+
+-- Where the part of the table with so many turn ends inside stops.
+abbrev bound : ℕ → ℕ
+bound zero = first
+bound (suc zero) = second
+bound (suc (suc n)) = size
+
+-- A place is within its part of the table.
+place-low : (ends : ℕ → TurnEnd) (G : ℕ) (n k : ℕ) (c : Control) (γ d : ℕ) → G ≤ 4 → n ≤ 2 → Inside G n ends
+    → c .passed + k ≤ n → c .shared < G → γ ≤ 16 → d < 8
+    → placeOf ends k c γ d < bound n
+place-low ends G zero zero c γ d four two inside e g s i = omega arith
+place-low ends G (suc zero) zero c γ d four two inside e g s i = omega arith
+place-low ends G (suc (suc n)) zero c γ d four two inside e g s i = omega arith
+place-low ends G zero (suc k) c γ d four two inside e g s i = absurd (omega arith)
+place-low ends G (suc zero) (suc zero) c γ d four two inside e g s i = let l = inside (c .passed) (omega arith) in omega arith
+place-low ends G (suc (suc n)) (suc zero) c γ d four two inside e g s i = let l = inside (c .passed) (omega arith) in omega arith
+place-low ends G (suc zero) (suc (suc k)) c γ d four two inside e g s i = absurd (omega arith)
+place-low ends G (suc (suc n)) (suc (suc k)) c γ d four two inside e g s i = let l = inside (suc (c .passed)) (omega arith) in omega arith
+
+module _ {t : Thread} {G n : ℕ} {ends : ℕ → TurnEnd} {tab : List ℕ} (fits : ThreadFits G t) (four : G ≤ 4) (two : n ≤ 2) (inside : Inside G n ends)
+    (R : Ready t G n ends tab) (from : (k : ℕ) → k < bound n → From (Second t G (ends 0 .leave) (ends 0 .enter)) blank k (cell tab k)) where
+  -- A table whose edges hold and whose counts follow by them is exact.
+  pub summed : Summed t G n ends tab
+  summed = record { exact = λ turnOf c γ d p q o. record { some = some turnOf c γ d p q o; least = least turnOf c γ d p q } }
+    where
+      least : (turnOf : ℕ → ℕ) (c : Control) (γ : ℕ) (d : End Control) → InTable G n c → γ ≤ 16
+          → {ss rest : List Step} → Stretch (Moves t turnOf) (Switches ends n) c γ d ss rest
+          → (entry ends tab c γ d ≤ 4096) × (entry ends tab c γ d + length rest ≤ length ss)
+      least turnOf c γ d p q s =
+          let b = bounded _ _ _ _ (ranged turnOf fits four two inside R) (closed turnOf fits four two inside R) p q s in (b .reached, b .most)
+
+      some : (turnOf : ℕ → ℕ) (c : Control) (γ : ℕ) (d : End Control) → InTable G n c → γ ≤ 16
+          → InTable G n (endOf d) → entry ends tab c γ d ≤ 4096
+          → (us : List Step) × Uses (Moves t turnOf) (Switches ends n) c γ d us × (min (length us) 4096 ≡ entry ends tab c γ d)
+      some turnOf c γ d p q o h =
+          elim (decLe (c .passed) (atEnd d .passed)) [
+            | yes l ↦
+                let k : ℕ = atEnd d .passed - c .passed in
+                let place : ℕ = placeOf ends k c γ (dest d) in
+                let same : entry ends tab c γ d ≡ cell tab place = rw (le-leb (c .passed) (atEnd d .passed) l) in
+                let low = place-low ends G n k c γ (dest d) four two inside (omega arith) (p .1) q (dest-low d four o) in
+                let u = sound t G turnOf ends n fits four two (λ j i. let z = inside j i in (omega arith, omega arith)) (from place low)
+                c γ d l (o .0) (p .1) q (o .1) refl (rw same at h) in
+                let b = least turnOf c γ d p q (u .1 []) in
+                (u .0, u .1, omega (arith, same, u .2, b .1, ap length (append-nil (u .0))))
+            | no l ↦ absurd (omega (arith, rw (lt-leb (c .passed) (atEnd d .passed) (omega arith)) at h))
+          ]
+
+-- The three solved tables.
+pub plain-summed : {t : Thread} {G : ℕ} {tab : List ℕ} → ThreadFits G t → G ≤ 4 → Solved (Plain t G) first tab
+    → (ends : ℕ → TurnEnd) → Summed t G 0 ends tab
+plain-summed {t} {G} {tab} f g s ends =
+    summed f g (omega arith) (λ j h. absurd (omega arith))
+    (record {
+      low = s .low;
+      plains = s .closed;
+      ends1 = λ h. absurd (omega arith);
+      lanes1 = λ h. absurd (omega arith);
+      ends2 = λ h. absurd (omega arith);
+      cross2 = λ h. absurd (omega arith);
+      lanes2 = λ h. absurd (omega arith);
+    })
+    (λ k h. wider (λ e p. inl (inl p)) (s .derived k h))
+
+pub first-summed : {t : Thread} {G : ℕ} {tab : List ℕ} → ThreadFits G t → G ≤ 4 → Solved (First t G) second tab
+    → (ends : ℕ → TurnEnd) → Inside G 1 ends → Summed t G 1 ends tab
+first-summed {t} {G} {tab} f g s ends i =
+    summed f g (omega arith) i
+    (record {
+      low = λ k h. s .low k (omega arith);
+      plains = λ e p. s .closed e (inl p);
+      ends1 = λ h e p. s .closed e (inr (inl p));
+      lanes1 = λ h e p. s .closed e (inr (inr p));
+      ends2 = λ h. absurd (omega arith);
+      cross2 = λ h. absurd (omega arith);
+      lanes2 = λ h. absurd (omega arith);
+    })
+    (λ k h. wider (λ e p. inl p) (s .derived k h))
+
+pub second-summed : {t : Thread} {G o i : ℕ} {tab : List ℕ} → ThreadFits G t → G ≤ 4 → Solved (Second t G o i) size tab
+    → (ends : ℕ → TurnEnd) → Inside G 2 ends → ends 0 .leave ≡ o → ends 0 .enter ≡ i → Summed t G 2 ends tab
+second-summed {t} {G} {o} {i} {tab} f g s ends n p q =
+    let r : Solved (Second t G (ends 0 .leave) (ends 0 .enter)) size tab = rw (p, q) s in
+    summed f g (omega arith) n
+    (record {
+      low = λ k h. r .low k (omega arith);
+      plains = λ e x. r .closed e (inl (inl x));
+      ends1 = λ h e x. r .closed e (inl (inr (inl x)));
+      lanes1 = λ h e x. r .closed e (inl (inr (inr x)));
+      ends2 = λ h e x. r .closed e (inr (inl x));
+      cross2 = λ h e x. r .closed e (inr (inr (inl x)));
+      lanes2 = λ h e x. r .closed e (inr (inr (inr x)));
+    })
+    (r .derived)

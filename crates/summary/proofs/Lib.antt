@@ -1,0 +1,17 @@
+pub mod Best
+pub mod Complete
+pub mod Exacts
+pub mod Floors
+pub mod Joins
+pub mod Loops
+pub mod Meanings
+pub mod Overs
+pub mod Places
+pub mod Reaches
+pub mod Relaxing
+pub mod Resets
+pub mod Rows
+pub mod Solving
+pub mod Sound
+pub mod Spans
+pub mod Tables

@@ -1,0 +1,180 @@
+-- Cells and the stretches that they stand for: a cell determines how many turn ends are inside, and from which state and
+-- symbol its stretches start; so the blank table and the edges of turn ends give what they promise.
+use mathlib.Core.Path.{_≡_, refl, sym, ap, subst, _∙_}
+use Prim.Native.Nat.{ℕ, zero, suc, _+_, _≤_, _<_, min}
+use native.Mathlib.Nat.{add-zero, le-trans}
+use native.Mathlib.Omega.{arith}
+use Rattle.model.specs.declared.Thread.{Thread}
+use Rattle.summary.specs.Cells.{plain, lane, laneOf, first, second, rest, blank, FirstEnds, SecondEnds}
+use Rattle.summary.specs.Control.{Control, TurnEnd, Moves, Switches, dest, atEnd, placeOf}
+use Rattle.summary.specs.Edges.{Edge, Row}
+use Rattle.summary.specs.Stretch.{End, pop, stay}
+use Rattle.summary.proofs.Places.{start, width, Offset, lanes-fit, partOf, parts}
+use Rattle.summary.proofs.Places.{first-part, last-part, Alike, alike, blank-cell, blank-dest}
+use Rattle.summary.proofs.Reaches.{Reach, here-reach, change-reach}
+
+-- The lane of the last turn end inside, of m after p have passed.
+abbrev pub laneAt : (ℕ → TurnEnd) → ℕ → ℕ → ℕ
+laneAt ends zero p = 0
+laneAt ends (suc zero) p = laneOf (ends p .leave) (ends p .enter)
+laneAt ends (suc (suc m)) p = laneOf (ends (suc p) .leave) (ends (suc p) .enter)
+
+-- A place is its first lane and its lane.
+pub place-lane : (ends : ℕ → TurnEnd) (m : ℕ) (c : Control) (γ d : ℕ)
+    → start m (c .shared) γ d + laneAt ends m (c .passed) ≡ placeOf ends m c γ d
+place-lane ends zero c γ d = add-zero (plain (c .shared) γ d)
+place-lane ends (suc zero) c γ d = refl
+place-lane ends (suc (suc m)) c γ d = refl
+
+-- A stretch with m turn ends inside, within the n that there are, from and to states of the table.
+pub record Stands (n m : ℕ) (c : Control) (γ : ℕ) (d : End Control) : Type 0 where
+  pub gap : atEnd d .passed ≡ c .passed + m
+  pub last : atEnd d .passed ≤ n
+  pub from : c .shared < 4
+  pub top : γ ≤ 16
+  pub to : atEnd d .shared < 4
+
+-- Destinations are below 8.
+dest-lt : (d : End Control) → atEnd d .shared < 4 → dest d < 8
+dest-lt (pop c) h = omega arith
+dest-lt (stay c) h = omega arith
+
+-- Controls are equal by their fields.
+control-eq : (c d : Control) → c .passed ≡ d .passed → c .shared ≡ d .shared → c ≡ d
+control-eq c d p q = λ i. record { passed = p i; shared = q i }
+
+-- The end at the destination of a pop.
+pub pop-end : (c : Control) (u : End Control) → atEnd u .passed ≡ c .passed → dest u ≡ c .shared → c .shared < 4 → u ≡ pop c
+pop-end c (pop d) p q h = ap pop (control-eq d c p q)
+pop-end c (stay d) p q h = absurd (omega arith)
+
+-- A destination of 4 or more is a stay.
+pub stay-end : (u : End Control) → 4 ≤ dest u → atEnd u .shared < 4 → u ≡ stay (atEnd u)
+stay-end (pop c) p h = absurd (omega arith)
+stay-end (stay c) p h = refl
+
+module _ (t : Thread) (turnOf : ℕ → ℕ) (ends : ℕ → TurnEnd) (n : ℕ) where
+  -- A count of stretches of this thread.
+  abbrev pub Reached : Control → ℕ → End Control → ℕ → Type 0
+  Reached = Reach (Moves t turnOf) (Switches ends n)
+
+  -- `Means` by the number of turn ends inside.
+  abbrev pub Gives : ℕ → ℕ → Type 0
+  Gives k v =
+      (m : ℕ) (c : Control) (γ : ℕ) (d : End Control) → Stands n m c γ d
+      → start m (c .shared) γ (dest d) + laneAt ends m (c .passed) ≡ k → v ≤ 4096 → Reached c γ d v
+
+  -- An edge gives what its parts give.
+  abbrev pub Good : Edge → Type 0
+  Good e = (x y : ℕ) → x ≤ 4096 → y ≤ 4096 → Gives (e .a) x → Gives (e .b) y → Gives (e .k) (min (e .w + x + y) 4096)
+
+  -- What a row of edges has to give, once the place is known.
+  abbrev pub Makes : ℕ → ℕ → ℕ → ℕ → ℕ → ℕ → ℕ → ℕ → Type 0
+  Makes m g γ d w a b size =
+      (x y z : ℕ) → z < size → x ≤ 4096 → y ≤ 4096 → Gives a x → Gives (b + z) y
+      → (c : Control) (γ₀ : ℕ) (u : End Control) → Stands n m c γ₀ u
+      → Alike m (c .shared) γ₀ (dest u) (laneAt ends m (c .passed)) g γ d z → Reached c γ₀ u (min (w + x + y) 4096)
+
+module _ (t : Thread) (turnOf : ℕ → ℕ) (ends : ℕ → TurnEnd) (n : ℕ) (n2 : n ≤ 2)
+    (small : (j : ℕ) → j < n → (ends j .leave < 4) × (ends j .enter < 4)) where
+  -- A lane is below the lanes of its part.
+  lane-lt : (m p : ℕ) → p + m ≤ n → laneAt ends m p < width m
+  lane-lt zero p h = omega arith
+  lane-lt (suc zero) p h = omega (arith, small p (omega arith))
+  lane-lt (suc (suc m)) p h = omega (arith, small (suc p) (omega arith))
+
+  -- The place of a stretch.
+  spans : (m : ℕ) (c : Control) (γ : ℕ) (d : End Control) → Stands n m c γ d
+      → Offset m (c .shared) γ (dest d) (laneAt ends m (c .passed))
+  spans m c γ d s =
+      let p = dest-lt d (omega arith) in
+      record { part = omega arith; state = omega arith; symbol = s .top; dest = p; offset = le-trans (lane-lt m (c .passed) (omega arith)) (lanes-fit m (dest d) p) }
+
+  -- A cell of a known part has stretches with that many turn ends inside.
+  settle : (m k v : ℕ) → partOf k ≡ m
+      → ((c : Control) (γ : ℕ) (d : End Control) → Stands n m c γ d → start m (c .shared) γ (dest d) + laneAt ends m (c .passed) ≡ k → v ≤ 4096 → Reached t turnOf ends n c γ d v)
+      → Gives t turnOf ends n k v
+  settle m k v h f m′ c γ d s e =
+      let same : m ≡ m′ = sym h ∙ ap partOf (sym e) ∙ parts m′ (c .shared) γ (dest d) (laneAt ends m′ (c .passed)) (spans m′ c γ d s) in
+      subst (λ m. Stands n m c γ d → start m (c .shared) γ (dest d) + laneAt ends m (c .passed) ≡ k → v ≤ 4096 → Reached t turnOf ends n c γ d v) same (f c γ d) s e
+
+  -- A cell at an offset of a known place has stretches from that state and symbol.
+  found : (m g γ d x v : ℕ) → partOf (start m g γ d + x) ≡ m → (m ≤ n → Offset m g γ d x)
+      → ((c : Control) (γ₀ : ℕ) (u : End Control) → Stands n m c γ₀ u
+      → Alike m (c .shared) γ₀ (dest u) (laneAt ends m (c .passed)) g γ d x → Reached t turnOf ends n c γ₀ u v)
+      → Gives t turnOf ends n (start m g γ d + x) v
+  found m g γ d x v p h f =
+      settle m (start m g γ d + x) v p
+      (λ c γ₀ u s e i. f c γ₀ u s (alike m (c .shared) γ₀ (dest u) (laneAt ends m (c .passed)) g γ d x (spans m c γ₀ u s) (lane-lt m (c .passed) (omega arith)) (h (omega arith)) e))
+
+  -- A row of edges at a known place.
+  pub rows : (m g γ d w a b size : ℕ) → ((z : ℕ) → z < size → (partOf (start m g γ d + z) ≡ m) × (m ≤ n → Offset m g γ d z))
+      → Makes t turnOf ends n m g γ d w a b size → (e : Edge) → Row w (start m g γ d) a b size e → Good t turnOf ends n e
+  rows m g γ d w a b size h f e row =
+      let z = row .x in
+      let k = row .inside in
+      subst (Good t turnOf ends n) (sym (row .is)) (λ x y i j p q. found m g γ d z (min (w + x + y) 4096) (h z k .0) (h z k .1) (f x y z k i j p q))
+
+  -- The blank table: staying in place.
+  pub blank-gives : (k : ℕ) → Gives t turnOf ends n k (blank k)
+  blank-gives k m c γ d s e h =
+      settle 0 k (blank k) (first-part k (blank-cell k h .0))
+      (λ c γ d s e h.
+      let b : dest d ≡ 4 + c .shared = blank-dest (c .shared) γ (dest d) k (s .top) (dest-lt d (omega arith)) (omega arith) (blank-cell k h .1) in
+      let end : d ≡ stay (atEnd d) = stay-end d (omega arith) (omega arith) in
+      let same : atEnd d ≡ c = control-eq (atEnd d) c (omega arith) (omega (arith, ap dest end)) in
+      subst (λ u. Reached t turnOf ends n c γ u (blank k)) (sym (end ∙ ap stay same)) (here-reach (Moves t turnOf) (Switches ends n) c γ (blank k)))
+      m c γ d s e h
+
+  -- A change of turn.
+  switch : (c : Control) (γ : ℕ) (u : End Control) (m i y : ℕ) → Stands n (suc m) c γ u → c .shared ≡ ends (c .passed) .leave
+      → i ≡ ends (c .passed) .enter → i < 4 → (k : ℕ) → Gives t turnOf ends n k y → y ≤ 4096
+      → start m i γ (dest u) + laneAt ends m (suc (c .passed)) ≡ k → (v : ℕ) → min y 4096 ≤ v → Reached t turnOf ends n c γ u v
+  switch c γ u m i y s p q h k f l e v o =
+      let c₁ : Control = record { passed = suc (c .passed); shared = i } in
+      change-reach (Moves t turnOf) (Switches ends n) {c₁ = c₁} v o
+      (record { more = omega arith; leave = p; enter = q; passed = refl })
+      (f m c₁ γ u (record { gap = omega arith; last = s .last; from = h; top = s .top; to = s .to }) e l)
+
+  -- The edges of one turn end.
+  pub first-good : (G : ℕ) → G ≤ 4 → (e : Edge) → FirstEnds G e → Good t turnOf ends n e
+  first-good G G4 e b =
+      let o = b .i in
+      let i = b .at .i in
+      let γ = b .at .at .i in
+      let d = b .at .at .at .i in
+      let row = b .at .at .at .at in
+      let z : row .x ≡ 0 = omega (arith, row .inside) in
+      let place : Offset 1 o γ d (laneOf o i) =
+      record {
+        part = omega arith;
+        state = omega (arith, b .inside);
+        symbol = omega (arith, b .at .at .inside);
+        dest = b .at .at .at .inside;
+        offset = omega (arith, b .inside, b .at .inside, b .at .at .at .inside);
+      } in
+      let at : start 1 o γ d + laneOf o i ≡ lane first o γ d + laneOf o i + row .x = omega arith in
+      subst (Good t turnOf ends n) (sym (row .is))
+      (λ x y k j f g.
+      subst (λ k. Gives t turnOf ends n k (min (0 + x + y) 4096)) at
+      (found 1 o γ d (laneOf o i) (min (0 + x + y) 4096) (parts 1 o γ d (laneOf o i) place) (λ h. place)
+      (λ c γ₀ u s w.
+      let ends-small = small (c .passed) (omega arith) in
+      let both = w .narrow (omega (arith, b .inside, b .at .inside)) in
+      switch c γ₀ u 0 i y s (omega (arith, b .inside, b .at .inside)) (omega (arith, b .inside, b .at .inside)) (omega (arith, b .at .inside)) (plain i γ d + row .x) g j (omega arith)
+      (min (0 + x + y) 4096) (omega arith))))
+
+  -- The edges of a turn end before another.
+  pub second-good : (e : Edge) → SecondEnds (ends 0 .leave) (ends 0 .enter) e → Good t turnOf ends n e
+  second-good e b =
+      let γ = b .i in
+      rows 2 (ends 0 .leave) γ 0 0 rest (lane first (ends 0 .enter) γ 0) 128
+      (λ z k. (
+        last-part (lane second (ends 0 .leave) γ 0 + z) (omega arith),
+        λ h. record { part = omega arith; state = small 0 (omega arith) .0; symbol = omega (arith, b .inside); dest = omega arith; offset = k },
+      ))
+      (λ x y z k i j f g c γ₀ u s w.
+      let p : 0 ≡ c .passed = omega arith in
+      switch c γ₀ u 1 (ends 0 .enter) y s (w .state ∙ ap (λ p. ends p .leave) p) (ap (λ p. ends p .enter) p) (small 0 (omega arith) .1)
+      (lane first (ends 0 .enter) γ 0 + z) g j (omega (arith, w .same (ends 0 .enter) γ)) (min (0 + x + y) 4096) (omega arith))
+      e (b .at)

@@ -1,0 +1,59 @@
+-- `reset` meets its contract. The invariant: the cells from `from` up to i are blank, and those below are kept.
+use Prim.Native.Nat.{_≤_, _-_}
+use native.Mathlib.Nat.{le-antisymm}
+use borrow.Author.Needs.{needs}
+use Rattle.summary.specs.Cells.{Reset}
+use Rattle.summary.proofs.Resets.{reset-start, reset-next}
+use Rattle.summary.proofs.cells.reset.Statement.{statement}
+use Rattle.summary.proofs.cells.reset.Tie as tie
+
+abbrev Inv-loop : tie.InvT-loop
+Inv-loop t₀ from to i₀ t i = (from ≤ i) × (i ≤ to) × Reset from i t₀ t
+
+abbrev μ-loop : tie.MeasureT-loop
+μ-loop t₀ from to i₀ t i = to - i
+
+loop-holds : tie.Need-loop-holds Inv-loop μ-loop
+loop-holds c = (search needs, search needs, reset-start _ _)
+
+blank-at-requires : tie.Need-blank-at-requires Inv-loop μ-loop
+blank-at-requires c κs = search needs
+
+mul-t : tie.Need-mul-t Inv-loop μ-loop
+mul-t c = search needs
+
+slice-write-t : tie.Need-slice-write-t Inv-loop μ-loop
+slice-write-t c = search needs
+
+add-i : tie.Need-add-i Inv-loop μ-loop
+add-i c = search needs
+
+loop-less : tie.Need-loop-less Inv-loop μ-loop
+loop-less c = search needs
+
+loop-again : tie.Need-loop-again Inv-loop μ-loop
+loop-again c =
+    let loop = c .before .before .loop in
+    (search needs, search needs, reset-next (loop .inv .2) (loop .inv .0) (search needs) (c .blank-at .ensures))
+
+same-length : tie.Need-same-length Inv-loop μ-loop
+same-length c = search needs
+
+returns : tie.Need-returns Inv-loop μ-loop
+returns c = rw (le-antisymm (c .before .loop .inv .1) (c .loop-test .left)) at (c .before .loop .inv .2)
+
+pub reset-spec : {M : Type 1} → statement M
+reset-spec =
+    tie.close
+    (tie.spec
+    Inv-loop
+    μ-loop
+    loop-holds
+    blank-at-requires
+    mul-t
+    slice-write-t
+    add-i
+    loop-less
+    loop-again
+    same-length
+    returns)

@@ -1,0 +1,72 @@
+-- `cross_pass` meets its contract. The invariant: the rules below i are relaxed.
+use mathlib.Core.Path.{_≡_}
+use Prim.Native.Nat.{_-_}
+use lib.ListN.{length}
+use borrow.Author.Needs.{needs}
+use Rattle.model.specs.Rules.{ruleAt}
+use Rattle.model.proofs.Checks.{length-mapped}
+use Rattle.summary.specs.Cells.{CrossRule}
+use Rattle.summary.proofs.Loops.{Turning, starts, turns, ends}
+use Rattle.summary.proofs.cross.cross_pass.Statement.{statement}
+use Rattle.summary.proofs.cross.cross_pass.Tie as tie
+
+abbrev Inv-loop : tie.InvT-loop
+Inv-loop t₀ l n th count changes₀ i₀ t changes i =
+    Turning 512 (λ r. CrossRule l n (ruleAt th r)) count t₀ t changes i × (length (th .rules) ≡ 64)
+
+abbrev μ-loop : tie.MeasureT-loop
+μ-loop t₀ l n th count changes₀ i₀ t changes i = count - i
+
+loop-holds : tie.Need-loop-holds Inv-loop μ-loop
+loop-holds c = (starts _ _ _ _, search (length-mapped, needs))
+
+mul-rule : tie.Need-mul-rule Inv-loop μ-loop
+mul-rule c = search needs
+
+element-copy-out-rule : tie.Need-element-copy-out-rule Inv-loop μ-loop
+element-copy-out-rule c = search needs
+
+cross-rule-requires : tie.Need-cross-rule-requires Inv-loop μ-loop
+cross-rule-requires c κs =
+    let pre = c .before .before .before .before .before .pre in
+    let loop-test = c .before .before .loop-test in
+    (search needs, search needs, search needs, pre .3 .rules _ (loop-test .taken))
+
+add-changes : tie.Need-add-changes Inv-loop μ-loop
+add-changes c = search needs
+
+add-i : tie.Need-add-i Inv-loop μ-loop
+add-i c = search needs
+
+loop-less : tie.Need-loop-less Inv-loop μ-loop
+loop-less c = search needs
+
+loop-again : tie.Need-loop-again Inv-loop μ-loop
+loop-again c =
+    let loop = c .before .before .before .before .before .before .loop in
+    let loop-test = c .before .before .before .before .before .loop-test in
+    let cross-rule = c .before .before .cross-rule in
+    (turns (loop .inv .0) (loop-test .taken) (cross-rule .ensures .0) (cross-rule .ensures .1), search needs)
+
+same-length : tie.Need-same-length Inv-loop μ-loop
+same-length c = search needs
+
+returns : tie.Need-returns Inv-loop μ-loop
+returns c = ends (c .before .loop .inv .0) (c .loop-test .left) .0
+
+pub cross-pass-spec : {M : Type 1} → statement M
+cross-pass-spec =
+    tie.close
+    (tie.spec
+    Inv-loop
+    μ-loop
+    loop-holds
+    mul-rule
+    element-copy-out-rule
+    cross-rule-requires
+    add-changes
+    add-i
+    loop-less
+    loop-again
+    same-length
+    returns)

@@ -1,0 +1,78 @@
+-- `cross_pushes` meets its contract. The invariant: the states below q are relaxed.
+use Prim.Native.Nat.{_+_, _-_}
+use borrow.Author.Needs.{needs}
+use Rattle.summary.specs.Cells.{lane, first, second}
+use Rattle.summary.specs.Edges.{Row}
+use Rattle.summary.proofs.Loops.{Turning, starts, turns, ends}
+use Rattle.summary.proofs.cross.cross_pushes.Statement.{statement}
+use Rattle.summary.proofs.cross.cross_pushes.Tie as tie
+
+abbrev Inv-loop : tie.InvT-loop
+Inv-loop t₀ l n g s h a b changes₀ q₀ t changes q =
+    Turning 128 (λ q. Row 1 (lane second g s 0) (lane first h a q + l) (lane first q b 0) 128) n t₀ t changes q
+
+abbrev μ-loop : tie.MeasureT-loop
+μ-loop t₀ l n g s h a b changes₀ q₀ t changes q = n - q
+
+loop-holds : tie.Need-loop-holds Inv-loop μ-loop
+loop-holds c = starts _ _ _ _
+
+lane-place-requires : tie.Need-lane-place-requires Inv-loop μ-loop
+lane-place-requires c κs = search needs
+
+lane-place-requires-2 : tie.Need-lane-place-requires-2 Inv-loop μ-loop
+lane-place-requires-2 c κs = search needs
+
+add-row : tie.Need-add-row Inv-loop μ-loop
+add-row c = search needs
+
+lane-place-requires-3 : tie.Need-lane-place-requires-3 Inv-loop μ-loop
+lane-place-requires-3 c κs = search needs
+
+row-requires : tie.Need-row-requires Inv-loop μ-loop
+row-requires c κs = search needs
+
+add-changes : tie.Need-add-changes Inv-loop μ-loop
+add-changes c = search needs
+
+add-q : tie.Need-add-q Inv-loop μ-loop
+add-q c = search needs
+
+loop-less : tie.Need-loop-less Inv-loop μ-loop
+loop-less c = search needs
+
+loop-again : tie.Need-loop-again Inv-loop μ-loop
+loop-again c =
+    let loop = c .before .before .before .before .before .before .before .before .loop in
+    let loop-test = c .before .before .before .before .before .before .before .loop-test in
+    let lane-place = c .before .before .before .before .before .lane-place in
+    let lane-place2 = c .before .before .before .before .lane-place2 in
+    let lane-place3 = c .before .before .before .lane-place3 in
+    let row = c .before .before .row in
+    turns (loop .inv) (loop-test .taken)
+    (rw (lane-place .ensures, lane-place2 .ensures, lane-place3 .ensures) at (row .ensures .0)) (row .ensures .1)
+
+same-length : tie.Need-same-length Inv-loop μ-loop
+same-length c = search needs
+
+returns : tie.Need-returns Inv-loop μ-loop
+returns c = ends (c .before .loop .inv) (c .loop-test .left)
+
+pub cross-pushes-spec : {M : Type 1} → statement M
+cross-pushes-spec =
+    tie.close
+    (tie.spec
+    Inv-loop
+    μ-loop
+    loop-holds
+    lane-place-requires
+    lane-place-requires-2
+    add-row
+    lane-place-requires-3
+    row-requires
+    add-changes
+    add-q
+    loop-less
+    loop-again
+    same-length
+    returns)

@@ -1,0 +1,58 @@
+-- `ends_lane` meets its contract. The invariant: the symbols below s are relaxed.
+use Prim.Native.Nat.{_+_, _-_}
+use borrow.Author.Needs.{needs}
+use Rattle.summary.specs.Cells.{plain, lane, laneOf, first, rest}
+use Rattle.summary.specs.Edges.{Row, Below}
+use Rattle.summary.proofs.Loops.{Turning, starts, turns, ends}
+use Rattle.summary.proofs.ends.ends_lane.Statement.{statement}
+use Rattle.summary.proofs.ends.ends_lane.Tie as tie
+
+abbrev Inv-loop : tie.InvT-loop
+Inv-loop t₀ o i changes₀ s₀ t changes s =
+    Turning 8 (λ γ. Below 8 (λ d. Row 0 (lane first o γ d + laneOf o i) rest (plain i γ d) 1)) 17 t₀ t changes s
+
+abbrev μ-loop : tie.MeasureT-loop
+μ-loop t₀ o i changes₀ s₀ t changes s = 17 - s
+
+loop-holds : tie.Need-loop-holds Inv-loop μ-loop
+loop-holds c = starts _ _ _ _
+
+ends-symbol-requires : tie.Need-ends-symbol-requires Inv-loop μ-loop
+ends-symbol-requires c κs = search needs
+
+add-changes : tie.Need-add-changes Inv-loop μ-loop
+add-changes c = search needs
+
+add-s : tie.Need-add-s Inv-loop μ-loop
+add-s c = search needs
+
+loop-less : tie.Need-loop-less Inv-loop μ-loop
+loop-less c = search needs
+
+loop-again : tie.Need-loop-again Inv-loop μ-loop
+loop-again c =
+    let loop = c .before .before .before .before .before .loop in
+    let loop-test = c .before .before .before .before .loop-test in
+    let ends-symbol = c .before .before .ends-symbol in
+    turns (loop .inv) (loop-test .taken) (ends-symbol .ensures .0) (ends-symbol .ensures .1)
+
+same-length : tie.Need-same-length Inv-loop μ-loop
+same-length c = search needs
+
+returns : tie.Need-returns Inv-loop μ-loop
+returns c = ends (c .before .loop .inv) (c .loop-test .left)
+
+pub ends-lane-spec : {M : Type 1} → statement M
+ends-lane-spec =
+    tie.close
+    (tie.spec
+    Inv-loop
+    μ-loop
+    loop-holds
+    ends-symbol-requires
+    add-changes
+    add-s
+    loop-less
+    loop-again
+    same-length
+    returns)

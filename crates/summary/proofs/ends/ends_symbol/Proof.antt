@@ -1,0 +1,80 @@
+-- `ends_symbol` meets its contract. The invariant: the destinations below d are relaxed.
+use Prim.Native.Nat.{_+_, _-_}
+use borrow.Author.Needs.{needs}
+use Rattle.summary.specs.Cells.{plain, lane, laneOf, first, rest}
+use Rattle.summary.specs.Edges.{Row}
+use Rattle.summary.proofs.Loops.{Turning, starts, turns, ends}
+use Rattle.summary.proofs.ends.ends_symbol.Statement.{statement}
+use Rattle.summary.proofs.ends.ends_symbol.Tie as tie
+
+abbrev Inv-loop : tie.InvT-loop
+Inv-loop t₀ o i s changes₀ d₀ t changes d =
+    Turning 1 (λ d. Row 0 (lane first o s d + laneOf o i) rest (plain i s d) 1) 8 t₀ t changes d
+
+abbrev μ-loop : tie.MeasureT-loop
+μ-loop t₀ o i s changes₀ d₀ t changes d = 8 - d
+
+loop-holds : tie.Need-loop-holds Inv-loop μ-loop
+loop-holds c = starts _ _ _ _
+
+lane-place-requires : tie.Need-lane-place-requires Inv-loop μ-loop
+lane-place-requires c κs = search needs
+
+mul-row : tie.Need-mul-row Inv-loop μ-loop
+mul-row c = search needs
+
+add-row : tie.Need-add-row Inv-loop μ-loop
+add-row c = search needs
+
+add-row-2 : tie.Need-add-row-2 Inv-loop μ-loop
+add-row-2 c = search needs
+
+place-requires : tie.Need-place-requires Inv-loop μ-loop
+place-requires c κs = search needs
+
+row-requires : tie.Need-row-requires Inv-loop μ-loop
+row-requires c κs = search needs
+
+add-changes : tie.Need-add-changes Inv-loop μ-loop
+add-changes c = search needs
+
+add-d : tie.Need-add-d Inv-loop μ-loop
+add-d c = search needs
+
+loop-less : tie.Need-loop-less Inv-loop μ-loop
+loop-less c = search needs
+
+loop-again : tie.Need-loop-again Inv-loop μ-loop
+loop-again c =
+    let loop = c .before .before .before .before .before .before .before .loop in
+    let loop-test = c .before .before .before .before .before .before .loop-test in
+    let lane-place = c .before .before .before .before .lane-place in
+    let place = c .before .before .before .place in
+    let row = c .before .before .row in
+    turns (loop .inv) (loop-test .taken) (rw (lane-place .ensures, place .ensures) at (row .ensures .0)) (row .ensures .1)
+
+same-length : tie.Need-same-length Inv-loop μ-loop
+same-length c = search needs
+
+returns : tie.Need-returns Inv-loop μ-loop
+returns c = ends (c .before .loop .inv) (c .loop-test .left)
+
+pub ends-symbol-spec : {M : Type 1} → statement M
+ends-symbol-spec =
+    tie.close
+    (tie.spec
+    Inv-loop
+    μ-loop
+    loop-holds
+    lane-place-requires
+    mul-row
+    add-row
+    add-row-2
+    place-requires
+    row-requires
+    add-changes
+    add-d
+    loop-less
+    loop-again
+    same-length
+    returns)

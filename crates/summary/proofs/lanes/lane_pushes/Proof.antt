@@ -1,0 +1,95 @@
+-- `lane_pushes` meets its contract. The invariant: the states below q are relaxed, each by one row and then by eight.
+use mathlib.Core.Logic.{_⊎_}
+use Prim.Native.Nat.{_-_}
+use native.Mathlib.Omega.{arith}
+use borrow.Author.Needs.{needs}
+use Rattle.summary.specs.Cells.{plain, lane}
+use Rattle.summary.specs.Edges.{Row, Below}
+use Rattle.summary.proofs.Loops.{Turning, starts, turns, ends}
+use Rattle.summary.proofs.Relaxing.{then}
+use Rattle.summary.proofs.lanes.lane_pushes.Statement.{statement}
+use Rattle.summary.proofs.lanes.lane_pushes.Tie as tie
+
+abbrev Inv-loop : tie.InvT-loop
+Inv-loop t₀ base n g s h a b changes₀ q₀ t changes q =
+    Turning 256
+    (λ q e. Row 1 (lane base g s 0) (plain h a q) (lane base q b 0) 128 e ⊎ Below 8 (λ i. Row 1 (lane base g s i) (plain q b i) (lane base h a q) 16) e)
+    n t₀ t changes q
+
+abbrev μ-loop : tie.MeasureT-loop
+μ-loop t₀ base n g s h a b changes₀ q₀ t changes q = n - q
+
+loop-holds : tie.Need-loop-holds Inv-loop μ-loop
+loop-holds c = starts _ _ _ _
+
+lane-place-requires : tie.Need-lane-place-requires Inv-loop μ-loop
+lane-place-requires c κs = search needs
+
+place-requires : tie.Need-place-requires Inv-loop μ-loop
+place-requires c κs = search needs
+
+lane-place-requires-2 : tie.Need-lane-place-requires-2 Inv-loop μ-loop
+lane-place-requires-2 c κs = search needs
+
+row-requires : tie.Need-row-requires Inv-loop μ-loop
+row-requires c κs = search needs
+
+lane-place-requires-3 : tie.Need-lane-place-requires-3 Inv-loop μ-loop
+lane-place-requires-3 c κs = search needs
+
+lane-pops-requires : tie.Need-lane-pops-requires Inv-loop μ-loop
+lane-pops-requires c κs = search needs
+
+add-changes : tie.Need-add-changes Inv-loop μ-loop
+add-changes c = search needs
+
+add-changes-2 : tie.Need-add-changes-2 Inv-loop μ-loop
+add-changes-2 c = search needs
+
+add-q : tie.Need-add-q Inv-loop μ-loop
+add-q c = search needs
+
+loop-less : tie.Need-loop-less Inv-loop μ-loop
+loop-less c = search needs
+
+loop-again : tie.Need-loop-again Inv-loop μ-loop
+loop-again c =
+    let loop = c .before .before .before .before .before .before .before .before .before .before .before .before .before .loop in
+    let loop-test = c .before .before .before .before .before .before .before .before .before .before .before .before .loop-test in
+    let lane-place = c .before .before .before .before .before .before .before .before .before .before .lane-place in
+    let place = c .before .before .before .before .before .before .before .before .before .place in
+    let lane-place2 = c .before .before .before .before .before .before .before .before .lane-place2 in
+    let row = c .before .before .before .before .before .before .before .row in
+    let lane-place3 = c .before .before .before .lane-place3 in
+    let lane-pops = c .before .before .lane-pops in
+    turns (loop .inv) (loop-test .taken)
+    (then (rw (lane-place .ensures, place .ensures, lane-place2 .ensures) at (row .ensures .0))
+    (rw (lane-place3 .ensures) at (lane-pops .ensures .0)))
+    (omega arith)
+
+same-length : tie.Need-same-length Inv-loop μ-loop
+same-length c = search needs
+
+returns : tie.Need-returns Inv-loop μ-loop
+returns c = ends (c .before .loop .inv) (c .loop-test .left)
+
+pub lane-pushes-spec : {M : Type 1} → statement M
+lane-pushes-spec =
+    tie.close
+    (tie.spec
+    Inv-loop
+    μ-loop
+    loop-holds
+    lane-place-requires
+    place-requires
+    lane-place-requires-2
+    row-requires
+    lane-place-requires-3
+    lane-pops-requires
+    add-changes
+    add-changes-2
+    add-q
+    loop-less
+    loop-again
+    same-length
+    returns)

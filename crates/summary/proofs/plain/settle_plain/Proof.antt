@@ -1,0 +1,46 @@
+-- `settle_plain` meets its contract. A pass without changes leaves every edge holding; the measure is the table's sum with
+-- the last count of changes, which falls with each pass that follows a change.
+use Prim.Native.Nat.{_+_}
+use borrow.Author.Needs.{needs}
+use Rattle.summary.specs.Cells.{Plain}
+use Rattle.summary.specs.Edges.{sum}
+use Rattle.summary.proofs.Loops.{Closing, opens, passes, closes}
+use Rattle.summary.proofs.plain.settle_plain.Statement.{statement}
+use Rattle.summary.proofs.plain.settle_plain.Tie as tie
+
+abbrev Inv-loop : tie.InvT-loop
+Inv-loop t₀ n th changes₀ t changes = Closing (Plain th n) t₀ t changes
+
+abbrev μ-loop : tie.MeasureT-loop
+μ-loop t₀ n th changes₀ t changes = sum t + changes
+
+loop-holds : tie.Need-loop-holds Inv-loop μ-loop
+loop-holds c = opens _ _
+
+plain-pass-requires : tie.Need-plain-pass-requires Inv-loop μ-loop
+plain-pass-requires c κs = (search needs, search needs, c .before .before .before .before .pre .2)
+
+loop-less : tie.Need-loop-less Inv-loop μ-loop
+loop-less c = search needs
+
+loop-again : tie.Need-loop-again Inv-loop μ-loop
+loop-again c = passes (c .before .before .before .before .before .loop .inv) (c .before .before .plain-pass .ensures .0)
+
+same-length : tie.Need-same-length Inv-loop μ-loop
+same-length c = search needs
+
+returns : tie.Need-returns Inv-loop μ-loop
+returns c = closes (c .before .loop .inv) (c .loop-test .left)
+
+pub settle-plain-spec : {M : Type 1} → statement M
+settle-plain-spec =
+    tie.close
+    (tie.spec
+    Inv-loop
+    μ-loop
+    loop-holds
+    plain-pass-requires
+    loop-less
+    loop-again
+    same-length
+    returns)

@@ -1,0 +1,75 @@
+-- One thread along a line: its controls, moves and switches, and the cell of the table for each of its stretches.
+use mathlib.Core.Bool.{cond}
+use mathlib.Core.List.{List}
+use mathlib.Core.Path.{_≡_}
+use Prim.Native.Nat.{ℕ, zero, suc, _+_, _-_, _≤_, _<_}
+use lib.Dec.{T, leb}
+use Rattle.model.specs.declared.Right.{Right}
+use Rattle.model.specs.declared.Thread.{Thread}
+use Rattle.model.specs.Rules.{ruleAt, applies}
+use Rattle.model.specs.Walk.{Step}
+use Rattle.summary.specs.Cells.{plain, lane, laneOf, first, second}
+use Rattle.summary.specs.Edges.{cell}
+use Rattle.summary.specs.Stretch.{End, pop, stay, endOf}
+use Rattle.summary.specs.Table.{Exact}
+
+-- A control: how many turn ends of the thread have passed, and the shared state.
+pub record Control : Type 0 where
+  pub passed : ℕ
+  pub shared : ℕ
+
+-- A turn end inside a thread's run: the state in which its turn is left, and that in which its next turn is entered.
+pub record TurnEnd : Type 0 where
+  pub leave : ℕ
+  pub enter : ℕ
+
+-- A step of a thread's rules; `turnOf` numbers the thread's own turns.
+pub record Moves (t : Thread) (turnOf : ℕ → ℕ) (c : Control) (γ : ℕ) (s : Step) (x : Right) (d : Control) : Type 0 where
+  pub rule : T (applies t (s .rule) (c .shared) γ)
+  pub right : ruleAt t (s .rule) .right ≡ x
+  pub shared : d .shared ≡ ruleAt t (s .rule) .after .0
+  pub passed : d .passed ≡ c .passed
+  pub turn : s .turn ≡ turnOf (c .passed)
+
+-- A turn end, of the n that the line has for the thread: left in one state, entered in the other, at no cost.
+pub record Switches (ends : ℕ → TurnEnd) (n : ℕ) (c d : Control) : Type 0 where
+  pub more : c .passed < n
+  pub leave : c .shared ≡ ends (c .passed) .leave
+  pub enter : d .shared ≡ ends (c .passed) .enter
+  pub passed : d .passed ≡ suc (c .passed)
+
+-- The number of a destination: the pops at a state are 0 to 3, the stays 4 to 7.
+abbrev pub dest : End Control → ℕ
+dest (pop c) = c .shared
+dest (stay c) = 4 + c .shared
+
+-- The control at a destination.
+abbrev pub atEnd : End Control → Control
+atEnd d = endOf d
+
+-- The cell of a stretch with so many turn ends inside; with two, in the table that is solved for the first of them.
+abbrev pub placeOf : (ℕ → TurnEnd) → ℕ → Control → ℕ → ℕ → ℕ
+placeOf ends zero c γ d = plain (c .shared) γ d
+placeOf ends (suc zero) c γ d =
+    lane first (c .shared) γ d + laneOf (ends (c .passed) .leave) (ends (c .passed) .enter)
+placeOf ends (suc (suc k)) c γ d =
+    lane second (c .shared) γ d + laneOf (ends (suc (c .passed)) .leave) (ends (suc (c .passed)) .enter)
+
+-- The entry of a stretch: its cell, and 4,097 where the destination lies in an earlier turn.
+abbrev pub entry : (ℕ → TurnEnd) → List ℕ → Control → ℕ → End Control → ℕ
+entry ends t c γ d =
+    cond (leb (c .passed) (atEnd d .passed)) (cell t (placeOf ends (atEnd d .passed - c .passed) c γ (dest d))) 4097
+
+-- A control that the table has places for: with G states and n turn ends.
+abbrev pub InTable : ℕ → ℕ → Control → Type 0
+InTable G n c = (c .passed ≤ n) × (c .shared < G)
+
+-- The states of n turn ends are below G.
+abbrev pub Inside : ℕ → ℕ → (ℕ → TurnEnd) → Type 0
+Inside G n ends = (j : ℕ) → j < n → (ends j .leave < G) × (ends j .enter < G)
+
+-- Every entry of the table is exact: the capped least number of steps of the stretches of the thread along any line with
+-- these turn ends, whatever the numbers of its turns.
+pub record Summed (t : Thread) (G n : ℕ) (ends : ℕ → TurnEnd) (tab : List ℕ) : Type 0 where
+  pub exact : (turnOf : ℕ → ℕ) (c : Control) (γ : ℕ) (d : End Control) → InTable G n c → γ ≤ 16 → InTable G n (endOf d)
+      → Exact (Moves t turnOf) (Switches ends n) c γ d (entry ends tab c γ d)

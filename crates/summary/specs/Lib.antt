@@ -1,0 +1,5 @@
+pub mod Cells
+pub mod Control
+pub mod Edges
+pub mod Stretch
+pub mod Table

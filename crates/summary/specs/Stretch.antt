@@ -1,0 +1,43 @@
+-- Runs of one pushdown system, and its stretches (summaries): what becomes of one stack symbol, however deep the run goes.
+-- Generic over the controls, the labels of steps, the moves and the switches (free changes of control).
+use mathlib.Core.List.{List, [], _∷_}
+use Prim.Native.Nat.{ℕ}
+use Rattle.model.specs.declared.Right.{Right}
+use Rattle.model.specs.declared.Right.the-variants.{Remove, Swap, Push}
+use Rattle.model.specs.declared.Symbol.{Symbol}
+use Rattle.model.specs.Rules.{put}
+
+-- How a stretch over a symbol ends: the symbol and all that came of it is gone, or something still stands in its place.
+pub data End (C : Type 0) : Type 0 where
+  pop stay : C → End C
+
+-- The control where a stretch ends.
+abbrev pub endOf : {C : Type 0} → End C → C
+endOf (pop c) = c
+endOf (stay c) = c
+
+module _ {C S : Type 0} (Move : C → ℕ → S → Right → C → Type 0) (Switch : C → C → Type 0) where
+  -- A run from a control and a stack, its steps, and the control where it stops. A switch needs no top.
+  pub data Path : C → List ℕ → List S → C → Type 0 where
+    stop : {c : C} {w : List ℕ} → Path c w [] c
+    move : {c c₁ d : C} {γ : ℕ} {s : S} {x : Right} {w : List ℕ} {ss : List S}
+        → Move c γ s x c₁ → Path c₁ (put x w) ss d → Path c (γ ∷ w) (s ∷ ss) d
+    change : {c c₁ d : C} {w : List ℕ} {ss : List S} → Switch c c₁ → Path c₁ w ss d → Path c w ss d
+
+  -- A stretch from a control with a symbol on top: it uses the steps of the first list that stand before the second.
+  pub data Stretch : C → ℕ → End C → List S → List S → Type 0 where
+    here : {c : C} {γ : ℕ} {ss : List S} → Stretch c γ (stay c) ss ss
+    remove : {c c₁ : C} {γ : ℕ} {s : S} {ss : List S} → Move c γ s Remove c₁ → Stretch c γ (pop c₁) (s ∷ ss) ss
+    swap : {c c₁ : C} {γ : ℕ} {s : S} {a : Symbol} {d : End C} {ss rest : List S}
+        → Move c γ s (Swap a) c₁ → Stretch c₁ (a .0) d ss rest → Stretch c γ d (s ∷ ss) rest
+    both : {c c₁ q : C} {γ : ℕ} {s : S} {a b : Symbol} {d : End C} {ss mid rest : List S}
+        → Move c γ s (Push a b) c₁ → Stretch c₁ (a .0) (pop q) ss mid → Stretch q (b .0) d mid rest
+        → Stretch c γ d (s ∷ ss) rest
+    above : {c c₁ q : C} {γ : ℕ} {s : S} {a b : Symbol} {ss rest : List S}
+        → Move c γ s (Push a b) c₁ → Stretch c₁ (a .0) (stay q) ss rest → Stretch c γ (stay q) (s ∷ ss) rest
+    change : {c c₁ : C} {γ : ℕ} {d : End C} {ss rest : List S} → Switch c c₁ → Stretch c₁ γ d ss rest → Stretch c γ d ss rest
+
+  -- Switches alone, which are all that an empty stack may do.
+  pub data Switches : C → C → Type 0 where
+    none : {c : C} → Switches c c
+    more : {c c₁ d : C} → Switch c c₁ → Switches c₁ d → Switches c d

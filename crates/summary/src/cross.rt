@@ -1,0 +1,82 @@
+// Pushes with one turn end inside what comes of the first symbol, and one inside what comes of the second.
+use crate::cells::FIRST;
+use crate::cells::SECOND;
+use crate::cells::lane_place;
+use crate::edges::row;
+use model::Right;
+use model::Rule;
+use model::Thread;
+ghost use mathlib.Core.Path.{_≡_};
+ghost use Prim.Native.Nat.{_+_, _*_, _≤_, _<_};
+ghost use lib.ListN.{length};
+ghost use Rattle.model.proofs.Ranges.{RuleFits, ThreadFits};
+ghost use Rattle.summary.specs.Cells.{lane, size, first, second, CrossRule, Rules};
+ghost use Rattle.summary.specs.Edges.{Relaxed, Row, Below};
+
+// The edges of a rule whose first turn end is the one of lane l. How many cells have fallen.
+fn cross_rule(t: &mut [u64], l: usize, n: usize, r: Rule) -> u64
+    requires { ⌜ (length (now t) ≡ size) × (l < 16) × (n ≤ 4) × RuleFits n r ⌝ }
+    ensures { λ x. ⌜ Relaxed (CrossRule l n r) (now (t .entry)) (now (t .exit)) x × (x ≤ 512) ⌝ }
+{
+    let g = r.before.0 as usize;
+    let s = r.symbol.0 as usize;
+    let h = r.after.0 as usize;
+    let right = r.right;
+    match right {
+        Right::Remove => 0,
+        Right::Swap(_) => 0,
+        Right::Push(a, b) => cross_pushes(t, l, n, g, s, h, a.0 as usize, b.0 as usize),
+    }
+}
+
+// The edges of a push, at each state q where the first symbol goes.
+fn cross_pushes(
+    t: &mut [u64],
+    l: usize,
+    n: usize,
+    g: usize,
+    s: usize,
+    h: usize,
+    a: usize,
+    b: usize,
+) -> u64
+    requires { ⌜
+        (length (now t) ≡ size) × (l < 16) × (n ≤ 4) × (g < 4) × (s < 17) × (h < 4) × (a < 17) × (b < 17)
+        ⌝ }
+    ensures { λ x. ⌜
+        Relaxed (Below n (λ q. Row 1 (lane second g s 0) (lane first h a q + l) (lane first q b 0) 128))
+        (now (t .entry)) (now (t .exit)) x
+        × (x ≤ 128 * n)
+        ⌝ }
+{
+    let mut changes = 0;
+    let mut q = 0;
+    while q < n {
+        changes += row(
+            t,
+            1,
+            lane_place(SECOND, g, s, 0),
+            lane_place(FIRST, h, a, q) + l,
+            lane_place(FIRST, q, b, 0),
+            128,
+        );
+        q += 1;
+    }
+    changes
+}
+
+// The edges of all rules, once.
+pub fn cross_pass(t: &mut [u64], l: usize, n: usize, th: Thread) -> u64
+    requires { ⌜ (length (now t) ≡ size) × (l < 16) × (n ≤ 4) × ThreadFits n th ⌝ }
+    ensures { λ x. ⌜ Relaxed (Rules th (CrossRule l n)) (now (t .entry)) (now (t .exit)) x ⌝ }
+{
+    let count = th.count;
+    let mut changes = 0;
+    let mut i = 0;
+    while i < count {
+        let rule = th.rules[i];
+        changes += cross_rule(t, l, n, rule);
+        i += 1;
+    }
+    changes
+}

@@ -1,0 +1,89 @@
+// The search within one turn.
+use crate::cells::FIRST;
+use crate::cells::REST;
+use crate::cells::place;
+use crate::cells::reset;
+use crate::edges::row;
+use model::Right;
+use model::Rule;
+use model::Thread;
+ghost use mathlib.Core.Path.{_≡_};
+ghost use Prim.Native.Nat.{ℕ, _+_, _*_, _≤_, _<_};
+ghost use lib.ListN.{length};
+ghost use Rattle.model.proofs.Ranges.{RuleFits, ThreadFits};
+ghost use Rattle.summary.specs.Cells.{plain, size, first, PlainRule, Plain, Solved};
+ghost use Rattle.summary.specs.Control.{TurnEnd, Summed};
+ghost use Rattle.summary.specs.Edges.{Relaxed, Closes, Row, Below};
+
+// The edges of a rule. How many cells have fallen.
+fn plain_rule(t: &mut [u64], n: usize, r: Rule) -> u64
+    requires { ⌜ (length (now t) ≡ size) × (n ≤ 4) × RuleFits n r ⌝ }
+    ensures { λ x. ⌜ Relaxed (PlainRule n r) (now (t .entry)) (now (t .exit)) x × (x ≤ 36) ⌝ }
+{
+    let g = r.before.0 as usize;
+    let s = r.symbol.0 as usize;
+    let h = r.after.0 as usize;
+    let right = r.right;
+    match right {
+        Right::Remove => row(t, 1, place(g, s, h), REST, REST, 1),
+        Right::Swap(a) => row(t, 1, place(g, s, 0), REST, place(h, a.0 as usize, 0), 8),
+        Right::Push(a, b) => {
+            let below = plain_pushes(t, n, g, s, h, a.0 as usize, b.0 as usize);
+            below + row(t, 1, place(g, s, 4), REST, place(h, a.0 as usize, 4), 4)
+        }
+    }
+}
+
+// The edges of a push whose first symbol goes: at each state q.
+fn plain_pushes(t: &mut [u64], n: usize, g: usize, s: usize, h: usize, a: usize, b: usize) -> u64
+    requires { ⌜ (length (now t) ≡ size) × (n ≤ 4) × (g < 4) × (s < 17) × (h < 4) × (a < 17) × (b < 17) ⌝ }
+    ensures { λ x. ⌜
+        Relaxed (Below n (λ q. Row 1 (plain g s 0) (plain h a q) (plain q b 0) 8)) (now (t .entry)) (now (t .exit)) x
+        × (x ≤ 8 * n)
+        ⌝ }
+{
+    let mut changes = 0;
+    let mut q = 0;
+    while q < n {
+        changes += row(t, 1, place(g, s, 0), place(h, a, q), place(q, b, 0), 8);
+        q += 1;
+    }
+    changes
+}
+
+// The edges of all rules, once.
+fn plain_pass(t: &mut [u64], n: usize, th: Thread) -> u64
+    requires { ⌜ (length (now t) ≡ size) × (n ≤ 4) × ThreadFits n th ⌝ }
+    ensures { λ x. ⌜ Relaxed (Plain th n) (now (t .entry)) (now (t .exit)) x × (x ≤ 36 * 64) ⌝ }
+{
+    let count = th.count;
+    let mut changes = 0;
+    let mut i = 0;
+    while i < count {
+        let rule = th.rules[i];
+        changes += plain_rule(t, n, rule);
+        i += 1;
+    }
+    changes
+}
+
+// Passes until one changes nothing.
+fn settle_plain(t: &mut [u64], n: usize, th: Thread)
+    requires { ⌜ (length (now t) ≡ size) × (n ≤ 4) × ThreadFits n th ⌝ }
+    ensures { λ r. ⌜ Closes (Plain th n) (now (t .entry)) (now (t .exit)) ⌝ }
+{
+    let mut changes = 1;
+    while changes != 0 {
+        changes = plain_pass(t, n, th);
+    }
+}
+
+// Solves the stretches within one turn, whatever the table held: each entry is then exact.
+pub fn close_plain(t: &mut [u64], n: usize, th: Thread)
+    requires { ⌜ (length (now t) ≡ size) × (n ≤ 4) × ThreadFits n th ⌝ }
+    ensures solved { λ r. ⌜ Solved (Plain th n) first (now (t .exit)) ⌝ }
+    ensures exact { λ r. ⌜ ((ends : ℕ → TurnEnd) → Summed th n 0 ends (now (t .exit))) ⌝ }
+{
+    reset(t, 0, FIRST);
+    settle_plain(t, n, th);
+}

@@ -1,0 +1,181 @@
+// Closes tables of threads and compares their counts with known ones: those of the doubling thread one by one, and the sum
+// of all cells of a dense thread with a stored one.
+use libc::STDOUT_FILENO;
+use model::Thread;
+use record::Answer;
+use vectors::Tally;
+ghost use mathlib.Core.Path.{_≡_};
+ghost use Prim.Native.Nat.{_+_, _≤_, _<_};
+ghost use lib.ListN.{length};
+ghost use Rattle.model.proofs.Ranges.{ThreadFits};
+ghost use Rattle.summary.specs.Cells.{size, second, First, Solved};
+
+// The count at a cell.
+fn count_at(t: &[u64], k: usize) -> u64 {
+    if k < t.len() { t[k] } else { 0 }
+}
+
+// The steps after which symbol s is gone, where each symbol but 0 becomes two of the one below it: 2^(s+1) − 1, capped.
+fn doubled(s: usize) -> u64 {
+    let mut steps: u64 = 1;
+    let mut i = 0;
+    while i < s {
+        if 2048 <= steps {
+            return 4096;
+        }
+        steps = 2 * steps + 1;
+        i += 1;
+    }
+    steps
+}
+
+// Symbols 0 to 12 of the doubling thread, and 13, which no rule takes.
+fn compared(t: &[u64]) -> Tally {
+    let mut tally = Tally::new();
+    let mut s = 0;
+    while s < 13 {
+        tally = tally.counted(count_at(t, 8 * s) == doubled(s));
+        s += 1;
+    }
+    tally.counted(count_at(t, 104) == 4097)
+}
+
+// The sum of some cells.
+fn total(t: &[u64], from: usize, to: usize) -> u64
+    requires { ⌜ to ≤ length (now t) ⌝ }
+{
+    let mut sum = 0;
+    let mut i = from;
+    while i < to {
+        sum = std::num::wrapping_add_u64(sum, t[i]);
+        i += 1;
+    }
+    sum
+}
+
+// The sum of the last part of the table over all first turn ends.
+fn slices(t: &mut [u64], n: usize, th: Thread) -> u64
+    requires { ⌜ (length (now t) ≡ size) × (n ≤ 4) × ThreadFits n th × Solved (First th n) second (now t) ⌝ }
+{
+    let mut sum = 0;
+    let mut e = 0;
+    while e < 16 {
+        summary::turns::close_second(t, n, e / 4, e % 4, th);
+        sum = std::num::wrapping_add_u64(sum, total(t, 9248, 17952));
+        e += 1;
+    }
+    sum
+}
+
+// The sum of all tables of a thread.
+fn whole(t: &mut [u64], n: usize, th: Thread) -> u64
+    requires { ⌜ (length (now t) ≡ size) × (n ≤ 4) × ThreadFits n th ⌝ }
+{
+    summary::plain::close_plain(t, n, th);
+    summary::turns::close_first(t, n, th);
+    let sum = total(t, 0, 9248);
+    std::num::wrapping_add_u64(sum, slices(t, n, th))
+}
+
+// The doubling thread, with one state.
+fn doubling(t: &mut [u64]) -> Tally
+    requires { ⌜ length (now t) ≡ size ⌝ }
+{
+    let reading = record::read(
+        &[
+            73,
+            1,
+            0,
+            13,
+            0,
+            0,
+            6,
+            1,
+            0,
+            0,
+            6,
+            2,
+            1,
+            1,
+            6,
+            3,
+            2,
+            2,
+            6,
+            4,
+            3,
+            3,
+            6,
+            5,
+            4,
+            4,
+            6,
+            6,
+            5,
+            5,
+            6,
+            7,
+            6,
+            6,
+            6,
+            8,
+            7,
+            7,
+            6,
+            9,
+            8,
+            8,
+            6,
+            10,
+            9,
+            9,
+            6,
+            11,
+            10,
+            10,
+            6,
+            12,
+            11,
+            11,
+        ],
+    );
+    let answer = reading.answer;
+    let m = reading.model;
+    match answer {
+        Answer::Refused(_) => Tally::new(),
+        Answer::Accepted => {
+            summary::plain::close_plain(t, m.g as usize, m.a);
+            compared(t)
+        }
+    }
+}
+
+// The thread of a record.
+fn dense(t: &mut [u64], bytes: &[u8]) -> u64
+    requires { ⌜ length (now t) ≡ size ⌝ }
+{
+    let reading = record::read(bytes);
+    let answer = reading.answer;
+    let m = reading.model;
+    match answer {
+        Answer::Refused(_) => 0,
+        Answer::Accepted => whole(t, m.g as usize, m.a),
+    }
+}
+
+// The thread of the file, and the sum of its cells.
+fn file(t: &mut [u64], store: &mut [u8])
+    requires { ⌜ length (now t) ≡ size ⌝ }
+{
+    let n = vectors::load(b"dense.bin", store);
+    io::write_all(STDOUT_FILENO, b"dense.bin: sum ");
+    io::print_decimal(STDOUT_FILENO, dense(t, &store[0..n]));
+    io::write_all(STDOUT_FILENO, b"\n");
+}
+
+fn main() {
+    let mut t = [0u64; 17952];
+    doubling(&mut t).report(b"doubling thread");
+    let mut store = [0u8; 700];
+    file(&mut t, &mut store);
+}
