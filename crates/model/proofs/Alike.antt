@@ -15,7 +15,8 @@ use Rattle.model.specs.Valid.{SameThread, Same, Valid}
 use Rattle.model.specs.Verdict.{Verdict, clear, long, found, AtLeast, Judged}
 use Rattle.model.specs.Walk.{ThreadId, A, B, ownerOf, threadOf, stackOf}
 use Rattle.model.specs.Walk.{Config, startOf, Step, turnFits, fire, stepFrom, walk}
-use Rattle.model.proofs.Ranges.{ThreadFits, valid-fits}
+use Rattle.model.specs.Fits.{ThreadFits}
+use Rattle.model.proofs.Ranges.{valid-fits}
 
 -- Sameness goes both ways.
 back-thread : {t u : Thread} → SameThread t u → SameThread u t

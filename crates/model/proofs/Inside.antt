@@ -13,7 +13,8 @@ use Rattle.model.specs.Rules.{ruleAt, applies}
 use Rattle.model.specs.Runs.{Turns, stop, end, move, Marked}
 use Rattle.model.specs.Valid.{Valid}
 use Rattle.model.specs.Walk.{ThreadId, A, B, ownerOf, threadOf, Stacks, Step}
-use Rattle.model.proofs.Ranges.{ThreadFits, Fits, valid-fits}
+use Rattle.model.specs.Fits.{ThreadFits, Fits}
+use Rattle.model.proofs.Ranges.{valid-fits}
 use Rattle.model.proofs.Tests.{tests}
 
 -- What a rule that applies meets.

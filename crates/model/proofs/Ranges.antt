@@ -14,37 +14,10 @@ use Rattle.model.specs.declared.Right.{Right}
 use Rattle.model.specs.declared.Right.the-variants.{Remove, Swap, Push}
 use Rattle.model.specs.declared.Rule.{Rule}
 use Rattle.model.specs.declared.Thread.{Thread}
+use Rattle.model.specs.Fits.{RightFits, RuleFits, Fits}
 use Rattle.model.specs.Rules.{ruleAt, zeroRule}
 use Rattle.model.proofs.Tests.{tests}
 use Rattle.model.specs.Valid.{refuse, firstOf, headFault, symbolFault, rightFault, ruleFault, threadFault, faultOf, Valid}
-
--- The symbols of a right side are at most 15.
-abbrev pub RightFits : Right → Type 0
-RightFits Remove = Unit {0}
-RightFits (Swap a) = a .0 ≤ 15
-RightFits (Push a b) = (a .0 ≤ 15) × (b .0 ≤ 15)
-
--- A rule's states are below g and its symbols at most 15.
-pub record RuleFits (g : ℕ) (r : Rule) : Type 0 where
-  pub state : r .before .0 < g
-  pub top : r .symbol .0 ≤ 15
-  pub next : r .after .0 < g
-  pub symbols : RightFits (r .right)
-
--- A thread's first symbol, its count and each of its rules are in range.
-pub record ThreadFits (g : ℕ) (t : Thread) : Type 0 where
-  pub first : t .first .0 ≤ 15
-  pub count : t .count ≤ 64
-  pub rules : (r : ℕ) → r < t .count → RuleFits g (ruleAt t r)
-
--- Every used place of a model is in range.
-pub record Fits (m : Model) : Type 0 where
-  pub g : (1 ≤ m .g) × (m .g ≤ 4)
-  pub k : (1 ≤ m .k) × (m .k ≤ 3)
-  pub start : m .start .0 < m .g
-  pub target : m .target .0 < m .g
-  pub a : ThreadFits (m .g) (m .a)
-  pub b : ThreadFits (m .g) (m .b)
 
 -- No fault of checks in order is no fault of the first and none of the others.
 none : (n : ℕ) (ns : List ℕ) → (firstOf (n ∷ ns) ≡ 0) ↔ ((n ≡ 0) × (firstOf ns ≡ 0))

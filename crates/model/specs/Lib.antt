@@ -1,3 +1,4 @@
+pub mod Fits
 pub mod Lines
 pub mod Rules
 pub mod Runs

@@ -7,7 +7,8 @@ use native.Mathlib.Omega.{arith}
 use lib.ListN.{length, take, drop}
 use lib.Seq.{sets-eq, take-append-seam}
 use borrow.Author.Tests.{ne-eqb, le-leb, lt-leb}
-use Rattle.model.proofs.Ranges.{ThreadFits, valid-fits}
+use Rattle.model.specs.Fits.{ThreadFits}
+use Rattle.model.proofs.Ranges.{valid-fits}
 use Rattle.model.specs.declared.Model.{Model}
 use Rattle.model.specs.declared.Thread.{Thread}
 use Rattle.model.specs.Valid.{Valid, faultOf}

@@ -6,7 +6,7 @@ use Prim.Native.Nat.{ℕ, _≤_, _<_, zero-le}
 use native.Mathlib.Omega.{arith}
 use lib.Dec.{T, eqb}
 use Rattle.model.specs.declared.Model.{Model}
-use Rattle.model.proofs.Ranges.{Fits}
+use Rattle.model.specs.Fits.{Fits}
 use Rattle.model.proofs.Tests.{passed}
 use Rattle.record.specs.Reader.{value, bit, byte, ranged, field, Head, head}
 use Rattle.record.specs.Writer.{fieldOf, weight, mapOf}

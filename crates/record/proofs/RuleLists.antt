@@ -12,7 +12,7 @@ use borrow.Author.Tests.{lt-ltb}
 use Rattle.model.specs.declared.Right.{Right}
 use Rattle.model.specs.declared.Right.the-variants.{Remove, Swap, Push}
 use Rattle.model.specs.declared.Rule.{Rule}
-use Rattle.model.proofs.Ranges.{RightFits, RuleFits}
+use Rattle.model.specs.Fits.{RightFits, RuleFits}
 use Rattle.model.proofs.Tests.{order}
 use Rattle.record.specs.Reader.{value, bit, byte, field, ruleMap, symbol, right, rule, ruleList}
 use Rattle.record.specs.Writer.{fieldOf, weight, symbolsOf, symbolBits, ruleOf, ruleListOf}

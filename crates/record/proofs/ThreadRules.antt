@@ -10,7 +10,7 @@ use lib.Seq.{take-append-seam, length-take-le}
 use Rattle.model.specs.declared.Rule.{Rule}
 use Rattle.model.specs.declared.Thread.{Thread}
 use Rattle.model.specs.Rules.{zeroRule}
-use Rattle.model.proofs.Ranges.{RuleFits, ThreadFits}
+use Rattle.model.specs.Fits.{RuleFits, ThreadFits}
 use Rattle.record.specs.Reader.{value, field, ruleList, rules, threadOf}
 use Rattle.record.specs.Writer.{fieldOf, ruleListOf, rulesOf}
 use Rattle.record.proofs.OneField.{parted, field-back, field-forth}

@@ -13,10 +13,10 @@ use Rattle.model.specs.declared.Symbol.{Symbol}
 use Rattle.model.specs.declared.Thread.{Thread}
 use Rattle.model.specs.Walk.{Step}
 use Rattle.model.proofs.Inside.{applies-iff}
-use Rattle.model.proofs.Ranges.{RightFits, ThreadFits}
+use Rattle.model.specs.Fits.{RightFits, ThreadFits}
 use Rattle.summary.specs.Cells.{plain, laneOf, first, second, rest, blank, plainBy}
 use Rattle.summary.specs.Cells.{laneBy, crossBy, LaneRule, CrossRule, FirstEnds, SecondEnds, Rules, Plain}
-use Rattle.summary.specs.Control.{Control, TurnEnd, Moves, Switches, dest, atEnd, entry, InTable, Inside}
+use Rattle.summary.specs.Control.{Control, TurnEnd, Moves, Switches, dest, entry, InTable, Inside}
 use Rattle.summary.specs.Edges.{Edge, cell, Holds}
 use Rattle.summary.specs.Stretch.{End, pop, stay, endOf}
 use Rattle.summary.proofs.Tables.{AtMost, Symbols, Ranged, Closed}
@@ -60,19 +60,19 @@ module _ {t : Thread} {G n : ℕ} (turnOf : ℕ → ℕ) {ends : ℕ → TurnEnd
           h e (record { i = s .rule; inside = a .listed; at = rw (a .state, a .symbol, m .right, ← m .shared) f })
 
   -- The entry of a stretch with k turn ends inside.
-  entry-at : (c : Control) (γ : ℕ) (d : End Control) (j k : ℕ) → c .passed ≡ j → j + k ≡ atEnd d .passed
+  entry-at : (c : Control) (γ : ℕ) (d : End Control) (j k : ℕ) → c .passed ≡ j → j + k ≡ endOf d .passed
       → entry ends tab c γ d ≡ cell tab (at ends k j (c .shared) γ (dest d))
   entry-at c γ d j k p e =
-      let h : c .passed ≤ atEnd d .passed = omega arith in
-      let g : atEnd d .passed - c .passed ≡ k = omega arith in
-      rw (le-leb (c .passed) (atEnd d .passed) h, g) (ap (λ i. cell tab (at ends k i (c .shared) γ (dest d))) p)
+      let h : c .passed ≤ endOf d .passed = omega arith in
+      let g : endOf d .passed - c .passed ≡ k = omega arith in
+      rw (le-leb (c .passed) (endOf d .passed) h, g) (ap (λ i. cell tab (at ends k i (c .shared) γ (dest d))) p)
 
   -- An entry that is reached has a number of turn ends inside.
-  gap : (c : Control) (γ : ℕ) (d : End Control) → entry ends tab c γ d ≤ 4096 → (k : ℕ) × (c .passed + k ≡ atEnd d .passed)
+  gap : (c : Control) (γ : ℕ) (d : End Control) → entry ends tab c γ d ≤ 4096 → (k : ℕ) × (c .passed + k ≡ endOf d .passed)
   gap c γ d h =
-      elim (decLe (c .passed) (atEnd d .passed)) [
-        | yes l ↦ (atEnd d .passed - c .passed, omega arith)
-        | no l ↦ absurd (omega (arith, rw (lt-leb (c .passed) (atEnd d .passed) (omega arith)) at h))
+      elim (decLe (c .passed) (endOf d .passed)) [
+        | yes l ↦ (endOf d .passed - c .passed, omega arith)
+        | no l ↦ absurd (omega (arith, rw (lt-leb (c .passed) (endOf d .passed) (omega arith)) at h))
       ]
 
   -- The cell that is 0.
@@ -160,7 +160,7 @@ module _ {t : Thread} {G n : ℕ} (turnOf : ℕ → ℕ) {ends : ℕ → TurnEnd
           → Switches ends n c c₁ → entry ends tab c₁ γ d ≤ 4096 → AtMost (entry ends tab c γ d) (entry ends tab c₁ γ d)
       change {c} {c₁} γ d p q o s h =
           let k = gap c₁ γ d h in
-          let end : c .passed + suc (k .0) ≡ atEnd d .passed = omega (arith, k .1, s .passed) in
+          let end : c .passed + suc (k .0) ≡ endOf d .passed = omega (arith, k .1, s .passed) in
           let one = entry-at c γ d (c .passed) (suc (k .0)) refl end in
           let other = entry-at c₁ γ d (suc (c .passed)) (k .0) (s .passed) (omega arith) in
           rw (one, other)

@@ -10,9 +10,9 @@ use lib.ListN.{length}
 use borrow.Author.Tests.{le-leb, lt-leb}
 use Rattle.model.specs.declared.Thread.{Thread}
 use Rattle.model.specs.Walk.{Step}
-use Rattle.model.proofs.Ranges.{ThreadFits}
+use Rattle.model.specs.Fits.{ThreadFits}
 use Rattle.summary.specs.Cells.{first, second, size, blank, Plain, First, Second, Solved}
-use Rattle.summary.specs.Control.{Control, TurnEnd, Moves, Switches, dest, atEnd, placeOf, entry, InTable, Inside, Summed}
+use Rattle.summary.specs.Control.{Control, TurnEnd, Moves, Switches, dest, placeOf, entry, InTable, Inside, Summed}
 use Rattle.summary.specs.Edges.{cell, From}
 use Rattle.summary.specs.Stretch.{End, endOf, Stretch}
 use Rattle.summary.specs.Table.{Uses}
@@ -57,17 +57,17 @@ module _ {t : Thread} {G n : ℕ} {ends : ℕ → TurnEnd} {tab : List ℕ} (fit
           → InTable G n (endOf d) → entry ends tab c γ d ≤ 4096
           → (us : List Step) × Uses (Moves t turnOf) (Switches ends n) c γ d us × (min (length us) 4096 ≡ entry ends tab c γ d)
       some turnOf c γ d p q o h =
-          elim (decLe (c .passed) (atEnd d .passed)) [
+          elim (decLe (c .passed) (endOf d .passed)) [
             | yes l ↦
-                let k : ℕ = atEnd d .passed - c .passed in
+                let k : ℕ = endOf d .passed - c .passed in
                 let place : ℕ = placeOf ends k c γ (dest d) in
-                let same : entry ends tab c γ d ≡ cell tab place = rw (le-leb (c .passed) (atEnd d .passed) l) in
+                let same : entry ends tab c γ d ≡ cell tab place = rw (le-leb (c .passed) (endOf d .passed) l) in
                 let low = place-low ends G n k c γ (dest d) four two inside (omega arith) (p .1) q (dest-low d four o) in
                 let u = sound t G turnOf ends n fits four two (λ j i. let z = inside j i in (omega arith, omega arith)) (from place low)
                 c γ d l (o .0) (p .1) q (o .1) refl (rw same at h) in
                 let b = least turnOf c γ d p q (u .1 []) in
                 (u .0, u .1, omega (arith, same, u .2, b .1, ap length (append-nil (u .0))))
-            | no l ↦ absurd (omega (arith, rw (lt-leb (c .passed) (atEnd d .passed) (omega arith)) at h))
+            | no l ↦ absurd (omega (arith, rw (lt-leb (c .passed) (endOf d .passed) (omega arith)) at h))
           ]
 
 -- The three solved tables.

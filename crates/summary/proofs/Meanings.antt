@@ -6,9 +6,9 @@ use native.Mathlib.Nat.{add-zero, le-trans}
 use native.Mathlib.Omega.{arith}
 use Rattle.model.specs.declared.Thread.{Thread}
 use Rattle.summary.specs.Cells.{plain, lane, laneOf, first, second, rest, blank, FirstEnds, SecondEnds}
-use Rattle.summary.specs.Control.{Control, TurnEnd, Moves, Switches, dest, atEnd, placeOf}
+use Rattle.summary.specs.Control.{Control, TurnEnd, Moves, Switches, dest, placeOf}
 use Rattle.summary.specs.Edges.{Edge, Row}
-use Rattle.summary.specs.Stretch.{End, pop, stay}
+use Rattle.summary.specs.Stretch.{endOf, End, pop, stay}
 use Rattle.summary.proofs.Places.{start, width, Offset, lanes-fit, partOf, parts}
 use Rattle.summary.proofs.Places.{first-part, last-part, Alike, alike, blank-cell, blank-dest}
 use Rattle.summary.proofs.Reaches.{Reach, here-reach, change-reach}
@@ -28,14 +28,14 @@ place-lane ends (suc (suc m)) c γ d = refl
 
 -- A stretch with m turn ends inside, within the n that there are, from and to states of the table.
 pub record Stands (n m : ℕ) (c : Control) (γ : ℕ) (d : End Control) : Type 0 where
-  pub gap : atEnd d .passed ≡ c .passed + m
-  pub last : atEnd d .passed ≤ n
+  pub gap : endOf d .passed ≡ c .passed + m
+  pub last : endOf d .passed ≤ n
   pub from : c .shared < 4
   pub top : γ ≤ 16
-  pub to : atEnd d .shared < 4
+  pub to : endOf d .shared < 4
 
 -- Destinations are below 8.
-dest-lt : (d : End Control) → atEnd d .shared < 4 → dest d < 8
+dest-lt : (d : End Control) → endOf d .shared < 4 → dest d < 8
 dest-lt (pop c) h = omega arith
 dest-lt (stay c) h = omega arith
 
@@ -44,12 +44,12 @@ control-eq : (c d : Control) → c .passed ≡ d .passed → c .shared ≡ d .sh
 control-eq c d p q = λ i. record { passed = p i; shared = q i }
 
 -- The end at the destination of a pop.
-pub pop-end : (c : Control) (u : End Control) → atEnd u .passed ≡ c .passed → dest u ≡ c .shared → c .shared < 4 → u ≡ pop c
+pub pop-end : (c : Control) (u : End Control) → endOf u .passed ≡ c .passed → dest u ≡ c .shared → c .shared < 4 → u ≡ pop c
 pop-end c (pop d) p q h = ap pop (control-eq d c p q)
 pop-end c (stay d) p q h = absurd (omega arith)
 
 -- A destination of 4 or more is a stay.
-pub stay-end : (u : End Control) → 4 ≤ dest u → atEnd u .shared < 4 → u ≡ stay (atEnd u)
+pub stay-end : (u : End Control) → 4 ≤ dest u → endOf u .shared < 4 → u ≡ stay (endOf u)
 stay-end (pop c) p h = absurd (omega arith)
 stay-end (stay c) p h = refl
 
@@ -121,8 +121,8 @@ module _ (t : Thread) (turnOf : ℕ → ℕ) (ends : ℕ → TurnEnd) (n : ℕ) 
       settle 0 k (blank k) (first-part k (blank-cell k h .0))
       (λ c γ d s e h.
       let b : dest d ≡ 4 + c .shared = blank-dest (c .shared) γ (dest d) k (s .top) (dest-lt d (omega arith)) (omega arith) (blank-cell k h .1) in
-      let end : d ≡ stay (atEnd d) = stay-end d (omega arith) (omega arith) in
-      let same : atEnd d ≡ c = control-eq (atEnd d) c (omega arith) (omega (arith, ap dest end)) in
+      let end : d ≡ stay (endOf d) = stay-end d (omega arith) (omega arith) in
+      let same : endOf d ≡ c = control-eq (endOf d) c (omega arith) (omega (arith, ap dest end)) in
       subst (λ u. Reached t turnOf ends n c γ u (blank k)) (sym (end ∙ ap stay same)) (here-reach (Moves t turnOf) (Switches ends n) c γ (blank k)))
       m c γ d s e h
 

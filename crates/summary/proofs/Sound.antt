@@ -13,11 +13,11 @@ use Rattle.model.specs.declared.Thread.{Thread}
 use Rattle.model.specs.Rules.{ruleAt}
 use Rattle.model.specs.Walk.{Step}
 use Rattle.model.proofs.Inside.{applies-iff}
-use Rattle.model.proofs.Ranges.{RightFits, ThreadFits}
+use Rattle.model.specs.Fits.{RightFits, ThreadFits}
 use Rattle.summary.specs.Cells.{plain, lane, laneOf, first, second, rest, blank, plainBy, laneBy, crossBy, Second}
-use Rattle.summary.specs.Control.{Control, TurnEnd, Moves, Switches, dest, atEnd, placeOf}
+use Rattle.summary.specs.Control.{Control, TurnEnd, Moves, Switches, dest, placeOf}
 use Rattle.summary.specs.Edges.{Edge, From, kept, by, Row}
-use Rattle.summary.specs.Stretch.{End, pop, stay}
+use Rattle.summary.specs.Stretch.{endOf, End, pop, stay}
 use Rattle.summary.specs.Table.{Uses}
 use Rattle.summary.proofs.Places.{start, width, baseOf, Offset, lanes-fit, parts}
 use Rattle.summary.proofs.Reaches.{remove-reach, swap-reach, both-reach, above-reach}
@@ -28,8 +28,8 @@ module _ (t : Thread) (G : ℕ) (turnOf : ℕ → ℕ) (ends : ℕ → TurnEnd) 
   -- The stretches that a cell stands for have one of at most that many steps, where the count says that there is one.
   abbrev pub Means : ℕ → ℕ → Type 0
   Means k v =
-      (c : Control) (γ : ℕ) (d : End Control) → c .passed ≤ atEnd d .passed → atEnd d .passed ≤ n
-      → c .shared < G → γ ≤ 16 → atEnd d .shared < G → placeOf ends (atEnd d .passed - c .passed) c γ (dest d) ≡ k → v ≤ 4096
+      (c : Control) (γ : ℕ) (d : End Control) → c .passed ≤ endOf d .passed → endOf d .passed ≤ n
+      → c .shared < G → γ ≤ 16 → endOf d .shared < G → placeOf ends (endOf d .passed - c .passed) c γ (dest d) ≡ k → v ≤ 4096
       → (us : List Step) × Uses (Moves t turnOf) (Switches ends n) c γ d us × (min (length us) 4096 ≤ v)
 
 module _ (t : Thread) (G : ℕ) (turnOf : ℕ → ℕ) (ends : ℕ → TurnEnd) (n : ℕ) (fits : ThreadFits G t) (G4 : G ≤ 4) (n2 : n ≤ 2)
@@ -114,7 +114,7 @@ module _ (t : Thread) (G : ℕ) (turnOf : ℕ → ℕ) (ends : ℕ → TurnEnd) 
     above-good m h a b eq =
         by-rule m 4 1 rest (start m H₀ (a .0) 4) (4 * width m) h (omega arith) (omega arith)
         (λ x y z k i j p q c γ u s w.
-        let end : u ≡ stay (atEnd u) = stay-end u (w .low) (omega arith) in
+        let end : u ≡ stay (endOf u) = stay-end u (w .low) (omega arith) in
         let part = q m (after r c) (a .0) u (onward (symbols (Push a b) eq .0) s) (w .same H₀ (a .0)) j in
         subst (λ v. Stretches c γ v (min (1 + x + y) 4096)) (sym end)
         (above-reach (Moves t turnOf) (Switches ends n) (min (1 + x + y) 4096) (omega arith)
@@ -124,7 +124,7 @@ module _ (t : Thread) (G : ℕ) (turnOf : ℕ → ℕ) (ends : ℕ → TurnEnd) 
     push-reach : (a b : Symbol) → ruleAt t r .right ≡ Push a b → (g : ℕ) → g < G → (p m o : ℕ) {l k x y v : ℕ}
         → Gives t turnOf ends n l x → Gives t turnOf ends n k y → x ≤ 4096 → y ≤ 4096 → min (1 + x + y) 4096 ≤ v
         → (c : Control) (γ : ℕ) (u : End Control) {j : ℕ} → Stands n j c γ u → c .shared ≡ G₀ → γ ≡ Γ₀
-        → p ≡ c .passed + m → atEnd u .passed ≡ p + o
+        → p ≡ c .passed + m → endOf u .passed ≡ p + o
         → start m H₀ (a .0) g + laneAt ends m (c .passed) ≡ l → start o g (b .0) (dest u) + laneAt ends o p ≡ k
         → Stretches c γ u v
     push-reach a b eq g h p m o {v = v} f d i j w c γ u s e e₁ e₂ e₃ e₄ e₅ =
@@ -151,7 +151,7 @@ module _ (t : Thread) (G : ℕ) (turnOf : ℕ → ℕ) (ends : ℕ → TurnEnd) 
         by-rule m d 1 (plain g (b .0) d) (start m H₀ (a .0) g) (width m) h o (lanes-fit m d o)
         (λ x y z k j l f q c γ u s w.
         let same = w .narrow k in
-        push-reach a b eq g i (atEnd u .passed) m 0 q f l j (omega arith) c γ u s (w .state) (w .symbol) (s .gap) (omega arith)
+        push-reach a b eq g i (endOf u .passed) m 0 q f l j (omega arith) c γ u s (w .state) (w .symbol) (s .gap) (omega arith)
         (ap (λ x. start m H₀ (a .0) g + x) (same .1)) (omega arith))
 
     -- A push with a turn end in each part.
@@ -206,6 +206,6 @@ pub sound : (t : Thread) (G : ℕ) (turnOf : ℕ → ℕ) (ends : ℕ → TurnEn
     → ((j : ℕ) → j < n → (ends j .leave < 4) × (ends j .enter < 4))
     → {k v : ℕ} → From (Second t G (ends 0 .leave) (ends 0 .enter)) blank k v → Means t G turnOf ends n k v
 sound t G turnOf ends n fits G4 n2 small f c γ d p q i j l e =
-    let m = atEnd d .passed - c .passed in
+    let m = endOf d .passed - c .passed in
     gives t G turnOf ends n fits G4 n2 small f m c γ d
     (record { gap = omega arith; last = q; from = omega arith; top = j; to = omega arith }) (place-lane ends m c γ (dest d) ∙ e)

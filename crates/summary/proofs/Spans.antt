@@ -7,7 +7,7 @@ use Rattle.model.specs.declared.Right.{Right}
 use Rattle.model.specs.declared.Right.the-variants.{Remove, Swap, Push}
 use Rattle.model.specs.declared.Thread.{Thread}
 use Rattle.model.specs.Rules.{ruleAt}
-use Rattle.model.proofs.Ranges.{RightFits, ThreadFits}
+use Rattle.model.specs.Fits.{RightFits, ThreadFits}
 use Rattle.summary.specs.Edges.{Edge, Row, Below}
 use Rattle.summary.specs.Cells.{plain, lane, first, second, size, plainBy, laneBy, crossBy}
 use Rattle.summary.specs.Cells.{LaneRule, CrossRule, FirstEnds, SecondEnds, Rules, Plain, First}

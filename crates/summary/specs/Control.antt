@@ -43,10 +43,6 @@ abbrev pub dest : End Control → ℕ
 dest (pop c) = c .shared
 dest (stay c) = 4 + c .shared
 
--- The control at a destination.
-abbrev pub atEnd : End Control → Control
-atEnd d = endOf d
-
 -- The cell of a stretch with so many turn ends inside; with two, in the table that is solved for the first of them.
 abbrev pub placeOf : (ℕ → TurnEnd) → ℕ → Control → ℕ → ℕ → ℕ
 placeOf ends zero c γ d = plain (c .shared) γ d
@@ -58,7 +54,7 @@ placeOf ends (suc (suc k)) c γ d =
 -- The entry of a stretch: its cell, and 4,097 where the destination lies in an earlier turn.
 abbrev pub entry : (ℕ → TurnEnd) → List ℕ → Control → ℕ → End Control → ℕ
 entry ends t c γ d =
-    cond (leb (c .passed) (atEnd d .passed)) (cell t (placeOf ends (atEnd d .passed - c .passed) c γ (dest d))) 4097
+    cond (leb (c .passed) (endOf d .passed)) (cell t (placeOf ends (endOf d .passed - c .passed) c γ (dest d))) 4097
 
 -- A control that the table has places for: with G states and n turn ends.
 abbrev pub InTable : ℕ → ℕ → Control → Type 0

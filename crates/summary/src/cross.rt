@@ -9,7 +9,7 @@ use model::Thread;
 ghost use mathlib.Core.Path.{_≡_};
 ghost use Prim.Native.Nat.{_+_, _*_, _≤_, _<_};
 ghost use lib.ListN.{length};
-ghost use Rattle.model.proofs.Ranges.{RuleFits, ThreadFits};
+ghost use Rattle.model.specs.Fits.{RuleFits, ThreadFits};
 ghost use Rattle.summary.specs.Cells.{lane, size, first, second, CrossRule, Rules};
 ghost use Rattle.summary.specs.Edges.{Relaxed, Row, Below};
 

@@ -10,7 +10,7 @@ ghost use mathlib.Core.Logic.{_⊎_};
 ghost use mathlib.Core.Path.{_≡_};
 ghost use Prim.Native.Nat.{_*_, _≤_, _<_};
 ghost use lib.ListN.{length};
-ghost use Rattle.model.proofs.Ranges.{RuleFits, ThreadFits};
+ghost use Rattle.model.specs.Fits.{RuleFits, ThreadFits};
 ghost use Rattle.summary.specs.Cells.{plain, lane, size, second, LaneRule, Rules};
 ghost use Rattle.summary.specs.Edges.{Relaxed, Closes, Row, Below};
 

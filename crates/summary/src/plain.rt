@@ -10,7 +10,7 @@ use model::Thread;
 ghost use mathlib.Core.Path.{_≡_};
 ghost use Prim.Native.Nat.{ℕ, _+_, _*_, _≤_, _<_};
 ghost use lib.ListN.{length};
-ghost use Rattle.model.proofs.Ranges.{RuleFits, ThreadFits};
+ghost use Rattle.model.specs.Fits.{RuleFits, ThreadFits};
 ghost use Rattle.summary.specs.Cells.{plain, size, first, PlainRule, Plain, Solved};
 ghost use Rattle.summary.specs.Control.{TurnEnd, Summed};
 ghost use Rattle.summary.specs.Edges.{Relaxed, Closes, Row, Below};

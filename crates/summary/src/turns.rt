@@ -11,7 +11,7 @@ use model::Thread;
 ghost use mathlib.Core.Path.{_≡_};
 ghost use Prim.Native.Nat.{ℕ, _≤_, _<_};
 ghost use lib.ListN.{length};
-ghost use Rattle.model.proofs.Ranges.{ThreadFits};
+ghost use Rattle.model.specs.Fits.{ThreadFits};
 ghost use Rattle.summary.specs.Cells.{size, first, second, Plain, First, Solved};
 ghost use Rattle.summary.specs.Control.{TurnEnd, Inside, Summed};
 

@@ -2,7 +2,8 @@
 use mathlib.Core.List.{List}
 use mathlib.Core.Path.{_≡_, subst}
 use Prim.Native.Nat.{ℕ, _≤_}
-use Rattle.model.proofs.Ranges.{ThreadFits, valid-fits}
+use Rattle.model.specs.Fits.{ThreadFits}
+use Rattle.model.proofs.Ranges.{valid-fits}
 use Rattle.record.specs.declared.Answer.the-variants.{Accepted}
 use Rattle.record.specs.declared.Reading.{Reading}
 use Rattle.record.specs.Kept.{Kept, keptBy, Keeps}

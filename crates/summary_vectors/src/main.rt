@@ -7,7 +7,7 @@ use vectors::Tally;
 ghost use mathlib.Core.Path.{_≡_};
 ghost use Prim.Native.Nat.{_+_, _≤_, _<_};
 ghost use lib.ListN.{length};
-ghost use Rattle.model.proofs.Ranges.{ThreadFits};
+ghost use Rattle.model.specs.Fits.{ThreadFits};
 ghost use Rattle.summary.specs.Cells.{size, second, First, Solved};
 
 // The count at a cell.

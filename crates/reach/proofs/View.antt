@@ -1,0 +1,24 @@
+-- One thread's view of a run along a line: its own turns move from where the line puts it, the other's turns jump to the
+-- line's next state.
+use mathlib.Core.List.{List, [], _∷_}
+use mathlib.Core.Path.{_≡_}
+use Prim.Native.Nat.{ℕ, suc}
+use lib.Dec.{T}
+use Rattle.model.specs.declared.Model.{Model}
+use Rattle.model.specs.Rules.{ruleAt, applies, put}
+use Rattle.model.specs.Walk.{ThreadId, other, ownerOf, threadOf, Step}
+
+-- From a turn, a shared state and the thread's stack on: the line, and the thread's own steps.
+pub data View (m : Model) (i : ThreadId) : ℕ → ℕ → List ℕ → List ℕ → List Step → Type 0 where
+  -- the run stops after a turn
+  stop : {t g : ℕ} {w : List ℕ} → View m i t g w [] []
+  -- a turn of the other thread, which ends where the line says
+  skip : {t g o : ℕ} {w line : List ℕ} {ss : List Step} → ownerOf t ≡ other i → View m i (suc t) o w line ss
+      → View m i t g w (o ∷ line) ss
+  -- the thread's own turn ends here
+  end : {t g : ℕ} {w line : List ℕ} {ss : List Step} → ownerOf t ≡ i → View m i (suc t) g w line ss
+      → View m i t g w (g ∷ line) ss
+  -- a step in the thread's own turn
+  move : {t g r top o : ℕ} {w line : List ℕ} {ss : List Step} → ownerOf t ≡ i → T (applies (threadOf i m) r g top)
+      → View m i t (ruleAt (threadOf i m) r .after .0) (put (ruleAt (threadOf i m) r .right) w) (o ∷ line) ss
+      → View m i t g (top ∷ w) (o ∷ line) (record { turn = t; rule = r } ∷ ss)
