@@ -1,2 +1,13 @@
-pub mod View
+pub mod Along
+pub mod Answers
+pub mod Digits
+pub mod Entries
+pub mod Filled
+pub mod Full
+pub mod Marked
+pub mod Marks
+pub mod Pack
+pub mod Pairs
+pub mod Values
 pub mod Views
+pub mod Written

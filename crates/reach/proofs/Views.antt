@@ -11,7 +11,7 @@ use Rattle.model.specs.declared.Model.{Model}
 use Rattle.model.specs.Rules.{ruleAt, applies, put}
 use Rattle.model.specs.Runs.{Turns, stop, end, move, Marked}
 use Rattle.model.specs.Walk.{ThreadId, A, B, other, ownerOf, threadOf, Stacks, stackOf, withStack, startStacks, Step}
-use Rattle.reach.proofs.View.{View, stop, skip, end, move}
+use Rattle.reach.specs.View.{View, stop, skip, end, move}
 
 -- The steps of two lists in one, each list in its own order.
 pub data Merged : List Step → List Step → List Step → Type 0 where

@@ -1,5 +1,5 @@
 -- The bits of a line table, and the full line that stands for the line at a place.
-use mathlib.Core.Bool.{Bool, true, false}
+use mathlib.Core.Bool.{Bool, false}
 use mathlib.Core.List.{List, _++_}
 use mathlib.Core.Logic.{_↔_}
 use mathlib.Core.Path.{_≡_}
@@ -24,10 +24,10 @@ padded k line = line ++ replicate (2 * k - length line) (lastOf 0 line)
 abbrev pub fullAt : ℕ → ℕ → ℕ → ℕ
 fullAt g k p = value g (padded k (lineAt g k p))
 
--- A store drawn from a set of full lines: bit p stands exactly if the set has the full line of place p; the spare bits of the
--- last byte are 0, and the bytes beyond it are as they were.
+-- A store drawn from a set of places: bit p stands exactly if p is in the set; the spare bits of the last byte are 0, and the
+-- bytes beyond it are as they were.
 pub record Drawn (g k : ℕ) (Has : ℕ → Type 0) (old new : List ℕ) : Type 0 where
   pub size : length new ≡ length old
-  pub marks : (p : ℕ) → p < bits g k → T (bitAt new p) ↔ Has (fullAt g k p)
+  pub marks : (p : ℕ) → p < bits g k → T (bitAt new p) ↔ Has p
   pub spare : (p : ℕ) → bits g k ≤ p → p < 8 * bytesFor g k → bitAt new p ≡ false
   pub beyond : drop (bytesFor g k) new ≡ drop (bytesFor g k) old

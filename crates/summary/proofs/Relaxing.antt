@@ -95,12 +95,12 @@ stored l k v h P p q i =
 
 -- What a count after an edge is: no more than it was; where the parts are reached, no more than they offer; and what it
 -- was or what they offer.
-record Better (w x y old new : ℕ) : Type 0 where
-  low : new ≤ old
-  most : x ≤ 4096 → y ≤ 4096 → (new ≤ 4096) × (new ≤ w + x + y)
-  which : (new ≡ old) ⊎ ((x ≤ 4096) × (y ≤ 4096) × (new ≡ min (w + x + y) 4096))
+pub record Better (w x y old new : ℕ) : Type 0 where
+  pub low : new ≤ old
+  pub most : x ≤ 4096 → y ≤ 4096 → (new ≤ 4096) × (new ≤ w + x + y)
+  pub which : (new ≡ old) ⊎ ((x ≤ 4096) × (y ≤ 4096) × (new ≡ min (w + x + y) 4096))
 
-better : (w x y old : ℕ) → Better w x y old (bestOf w x y old)
+pub better : (w x y old : ℕ) → Better w x y old (bestOf w x y old)
 unfolding bestOf
 better w x y old =
     elim (decLe x 4096) [

@@ -27,7 +27,7 @@ pub fn row(t: &mut [u64], w: u64, k: usize, a: usize, b: usize, n: usize) -> u64
 }
 
 // The lesser of a count and of what an edge offers, whose first part and weight are wx.
-fn better(wx: u64, y: u64, old: u64) -> u64
+pub fn better(wx: u64, y: u64, old: u64) -> u64
     requires { ⌜ wx ≤ 4097 ⌝ }
     ensures { λ r. ⌜ r ≡ bestOf wx 0 y old ⌝ }
 {

@@ -1,7 +1,7 @@
 // Least step counts of one thread.
-mod cells;
+pub mod cells;
 mod cross;
-mod edges;
+pub mod edges;
 mod ends;
 mod lanes;
 pub mod plain;

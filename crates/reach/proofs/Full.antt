@@ -1,0 +1,116 @@
+-- The line at a place, and its full line, by values: a state more multiplies by g, and the last state of a value is its rest by g.
+use mathlib.Core.Path.{_≡_, ap, sym, _∙_}
+use mathlib.Core.Logic.{⊎-elim}
+use mathlib.Core.List.{List, [], _∷_, _++_, append-nil, append-assoc}
+use Prim.Native.Nat.{ℕ, zero, suc, _+_, _-_, _*_, _/_, _%_, _^_, _<_, _≤_}
+use native.Mathlib.Nat.{pow-zero, pow-suc, pow-succ', pow-le-pow-right, le-trans, eq-or-lt-of-le, one-mul}
+use native.Mathlib.Nat.{add-mul, mul-assoc, add-assoc, mul-le-mul, mod-lt, mod-eq-of-lt, div-one, mod-mod-of-dvd, dvd-mul-right}
+use native.Mathlib.Numerals.{add-one}
+use native.Mathlib.Omega.{arith}
+use lib.Arith.{digits-lt}
+use lib.ListN.{length, replicate, length-append, replicate-append-replicate}
+use Rattle.model.specs.Lines.{Line, powers, bits, lastOf, value, position, digits, lineAt}
+use Rattle.model.proofs.Positions.{length-digits, digits-states, value-digits, line-at-position}
+use Rattle.reach.specs.Bits.{padded}
+use Rattle.reach.proofs.Digits.{power-small}
+
+-- A further factor fits.
+pub product-small : {v g : ℕ} → v ≤ 4096 → g ≤ 4 → v * g ≤ 16384
+product-small h l = mul-le-mul h l
+
+-- One state more.
+value-more : (g : ℕ) (xs : List ℕ) (x : ℕ) → value g (xs ++ x ∷ []) ≡ value g xs * g + x
+unfolding value
+value-more g [] x = rw pow-zero (omega arith)
+value-more g (y ∷ xs) x =
+    let e : y * g ^ length (xs ++ x ∷ []) + value g (xs ++ x ∷ []) ≡ (y * g ^ length xs + value g xs) * g + x =
+    rw (length-append, add-one, pow-suc, value-more g xs x, add-mul, mul-assoc, add-assoc) in
+    e
+
+-- The last state of n digits.
+last-digit : (g n v x : ℕ) → 0 < g → v < g ^ suc n → lastOf x (digits g (suc n) v) ≡ v % g
+unfolding digits
+last-digit g zero v x p h =
+    let b : v < g = rw (pow-suc, pow-zero, one-mul) at h in
+    rw (pow-zero, div-one) (sym (mod-eq-of-lt b))
+last-digit g (suc n) v x p h =
+    let b : 0 < g ^ suc n = le-trans (omega (arith, pow-zero g)) (pow-le-pow-right p {i = 0} {j = suc n} (omega arith)) in
+    last-digit g n (v % g ^ suc n) (v / g ^ suc n) p (mod-lt v b) ∙ rw pow-succ' (mod-mod-of-dvd g v (dvd-mul-right g (g ^ n)))
+
+-- The line at a place that is q places after the lines of up to m states.
+line-of : (g k m q p : ℕ) → m < 2 * k → q < g ^ suc m → powers g m + q ≡ p → lineAt g k p ≡ digits g (suc m) q
+line-of g k m q p h b e =
+    let line : Line g k (digits g (suc m) q) = record {
+      some = rw length-digits (omega arith);
+      most = rw length-digits h;
+      states = digits-states g (suc m) q b;
+    } in
+    let place : position g (digits g (suc m) q) ≡ p = rw (length-digits, value-digits g (suc m) q b) e in
+    rw place at (line-at-position line)
+
+-- On the way to the line at place p: the lines of up to m states are passed, q of the place is left, and there are `power` lines of
+-- one state more.
+pub record Reached (g k p q m power : ℕ) : Type 0 where
+  pub inside : m < 2 * k
+  pub size : power ≡ g ^ suc m
+  pub place : powers g m + q ≡ p
+
+pub reached-starts : (g k p : ℕ) → 1 ≤ k → Reached g k p p 0 g
+unfolding powers
+reached-starts g k p h = record {
+  inside = omega arith;
+  size = rw (pow-suc, pow-zero, one-mul);
+  place = omega arith;
+}
+
+pub reached-steps : {g k p q m power : ℕ} → p < bits g k → power ≤ q → Reached g k p q m power
+    → Reached g k p (q - power) (m + 1) (power * g)
+unfolding powers
+reached-steps {g} {k} {p} {q} {m} {power} h l d =
+    let passed : powers g (suc m) ≤ p = omega (arith, d .size, d .place) in
+    let inner : suc m < 2 * k =
+    ⊎-elim (λ e. absurd (omega (arith, ap (powers g) e))) (λ l. l) (eq-or-lt-of-le (d .inside)) in
+    record {
+      inside = rw add-one inner;
+      size = rw (add-one, pow-suc, ← d .size);
+      place = rw add-one (omega (arith, d .size, d .place));
+    }
+
+pub reached-small : {g k p q m power : ℕ} → g ≤ 4 → k ≤ 3 → Reached g k p q m power → power ≤ 4096
+reached-small {m = m} h l d = omega (arith, d .size, power-small {n = suc m} h (omega (arith, d .inside)))
+
+pub reached-ends : {g k p q m power : ℕ} → q < power → Reached g k p q m power
+    → (q < g ^ (m + 1)) × (lineAt g k p ≡ digits g (m + 1) q)
+reached-ends {g} {k} {p} {q} {m} h d =
+    let b : q < g ^ suc m = omega (arith, d .size) in
+    rw add-one (b, line-of g k m q p (d .inside) b (d .place))
+
+-- The line of n states with the value q, and its last state repeated up to i states, has the value v.
+pub record Padding (g n q i v : ℕ) : Type 0 where
+  pub from : n ≤ i
+  pub same : v ≡ value g (digits g n q ++ replicate (i - n) (q % g))
+  pub low : v < g ^ i
+
+pub padding-starts : (g n q : ℕ) → q < g ^ n → Padding g n q n q
+padding-starts g n q h = record {
+  from = omega arith;
+  same = let e : n - n ≡ 0 = omega arith in rw (e, append-nil) (sym (value-digits g n q h));
+  low = h;
+}
+
+pub padding-steps : {g n q i v : ℕ} → 0 < g → Padding g n q i v → Padding g n q (i + 1) (v * g + q % g)
+padding-steps {g} {n} {q} {i} {v} p h = record {
+  from = omega arith;
+  same =
+      let e : i + 1 - n ≡ (i - n) + 1 = omega arith in
+      rw (e, ← replicate-append-replicate (i - n) 1 (q % g), ← append-assoc, value-more, ← h .same);
+  low = rw (add-one, pow-suc) (digits-lt (h .low) (mod-lt q p));
+}
+
+pub padding-ends : {g q v : ℕ} (k n : ℕ) → 0 < g → 0 < n → q < g ^ n → Padding g n q (2 * k) v
+    → v ≡ value g (padded k (digits g n q))
+padding-ends k zero p l b h = absurd (omega arith)
+padding-ends {g} {q} k (suc n) p l b h = rw (length-digits, last-digit g n q 0 p b) (h .same)
+
+pub padding-small : {g n q i v : ℕ} → g ≤ 4 → i ≤ 6 → Padding g n q i v → v < 4096
+padding-small h l d = omega (arith, d .low, power-small h l)

@@ -1,0 +1,191 @@
+-- The least steps of a thread along a line, by its stretches: over the floor a run with one symbol is a stretch of that
+-- symbol that stays, or one that pops it and then a stretch of the floor that stays; each candidate of the minimum is one
+-- of these.
+use mathlib.Core.List.{List, [], _∷_, _++_, append-nil}
+use mathlib.Core.Logic.{_⊎_, inl, inr}
+use mathlib.Core.Path.{_≡_, refl, subst}
+use Prim.Native.Nat.{ℕ, zero, suc, _+_, _*_, _≤_, _<_, min}
+use native.Mathlib.Decide.{decLt}
+use native.Mathlib.Nat.{le-refl}
+use native.Mathlib.Omega.{arith}
+use lib.ListN.{length, length-append}
+use Rattle.model.specs.declared.Model.{Model}
+use Rattle.model.specs.declared.Right.{Right}
+use Rattle.model.specs.declared.Thread.{Thread}
+use Rattle.model.specs.Lines.{States}
+use Rattle.model.specs.Walk.{ThreadId, threadOf, Step}
+use Rattle.model.proofs.Inside.{applies-iff}
+use Rattle.model.specs.Fits.{ThreadFits}
+use Rattle.summary.specs.Control.{Control, TurnEnd, Moves, Switches, entry, InTable, Inside, Summed}
+use Rattle.summary.specs.Edges.{bestOf}
+use Rattle.summary.specs.Stretch.{End, pop, stay, endOf, Path, Stretch}
+use Rattle.summary.specs.Table.{capped, Exact}
+use Rattle.summary.proofs.Floors.{floored, unfloored}
+use Rattle.summary.proofs.Overs.{Over, within, gone, overs, pops, stays}
+use Rattle.summary.proofs.Relaxing.{better}
+use Rattle.reach.specs.Cost.{ViewCost, control, through, overStates, overTurns, pairCost, lineCost, Least}
+use Rattle.reach.specs.Ends.{turnOf, endsOf, firstState, lastState}
+use Rattle.reach.proofs.Along.{line-view, ends-inside, first-inside, last-inside}
+
+-- A count that is reached and at most m is so after a candidate more, and after one that is.
+lower : (x y old m : ℕ) → (old ≤ 4096) × (old ≤ m) → (bestOf 0 x y old ≤ 4096) × (bestOf 0 x y old ≤ m)
+lower x y old m h = let b = better 0 x y old in (omega (arith, b .low), omega (arith, b .low))
+
+hits : (x y old l m : ℕ) → (x ≤ 4096) × (x + l ≤ m) → (y ≤ 4096) × (y + 0 ≤ l)
+    → (bestOf 0 x y old ≤ 4096) × (bestOf 0 x y old ≤ m)
+hits x y old l m h k = let b = better 0 x y old .most (h .0) (k .0) in (b .0, omega (arith, b .1))
+
+module _ {C S : Type 0} {Move : C → ℕ → S → Right → C → Type 0} {Switch : C → C → Type 0} where
+  -- A stretch ends in a set of controls that moves and switches do not leave.
+  kept : {Ctl : C → Type 0}
+      → ((c d : C) (γ : ℕ) (s : S) (x : Right) → Ctl c → Move c γ s x d → Ctl d)
+      → ((c d : C) → Ctl c → Switch c d → Ctl d)
+      → {c : C} {γ : ℕ} {e : End C} {ss rest : List S} → Ctl c → Stretch Move Switch c γ e ss rest → Ctl (endOf e)
+  kept M W p Stretch.here = p
+  kept M W p (Stretch.remove m) = M _ _ _ _ _ p m
+  kept M W p (Stretch.swap m r) = kept M W (M _ _ _ _ _ p m) r
+  kept M W p (Stretch.both m r q) = kept M W (kept M W (M _ _ _ _ _ p m) r) q
+  kept M W p (Stretch.above m r) = kept M W (M _ _ _ _ _ p m) r
+  kept M W p (Stretch.change s r) = kept M W (W _ _ p s) r
+
+-- A count that some run with one symbol has, if it is reached.
+abbrev Made : {C S : Type 0} (Move : C → ℕ → S → Right → C → Type 0) (Switch : C → C → Type 0) → C → ℕ → C → ℕ → Type 0
+Made {S = S} Move Switch c γ d v = v ≤ 4096 → (ss : List S) × Path Move Switch c (γ ∷ []) ss d × (capped (length ss) ≡ v)
+
+module _ {C S : Type 0} {Move : C → ℕ → S → Right → C → Type 0} {Switch : C → C → Type 0} (φ : ℕ)
+    (idle : (c d : C) (s : S) (x : Right) → Move c φ s x d → ⊥) where
+  -- The floor is never popped.
+  never : {c q : C} {ss rest : List S} → Stretch Move Switch c φ (pop q) ss rest → ⊥
+  never (Stretch.remove m) = idle _ _ _ _ m
+  never (Stretch.swap m r) = idle _ _ _ _ m
+  never (Stretch.both m r q) = idle _ _ _ _ m
+  never (Stretch.change s r) = never r
+
+  -- The two ways as runs, by exact entries.
+  alone : {c d : C} {γ x : ℕ} → Exact Move Switch c γ (stay d) x → Made Move Switch c γ d x
+  alone f h = let u = f .some h in (u .0, rw append-nil at (stays Move Switch {w = []} (u .1 [])), u .2)
+
+  joined : {c u d : C} {γ x y old : ℕ} → Exact Move Switch c γ (pop u) x → Exact Move Switch u φ (stay d) y
+      → Made Move Switch c γ d old → Made Move Switch c γ d (bestOf 0 x y old)
+  joined {c} {u} {d} {γ} {x} {y} {old} f g r = which (better 0 x y old .which)
+    where
+      which : (bestOf 0 x y old ≡ old) ⊎ ((x ≤ 4096) × (y ≤ 4096) × (bestOf 0 x y old ≡ min (0 + x + y) 4096))
+          → Made Move Switch c γ d (bestOf 0 x y old)
+      which (inl e) h = rw e (r (rw e at h))
+      which (inr e) h =
+          let v = f .some (e .0) in
+          let w = g .some (e .1) in
+          let run : Path Move Switch c (γ ∷ φ ∷ []) (v .0 ++ (w .0 ++ [])) d =
+          pops Move Switch (v .1 (w .0 ++ [])) (stays Move Switch (w .1 [])) in (
+            v .0 ++ (w .0 ++ []),
+            unfloored Move Switch φ idle run (γ ∷ []) refl,
+            simp (length-append, append-nil) (omega (arith, v .2, w .2, e .2)),
+          )
+
+module _ (ends : ℕ → TurnEnd) (tab : List ℕ) (c : Control) (γ : ℕ) (d : Control) (G n : ℕ) (P : ℕ → Type 0)
+    (step : (j s old : ℕ) → j ≤ n → s < G → P old → P (through ends tab c γ d (control j s) old)) where
+  -- What each candidate keeps is kept by all of them.
+  states-made : (j k old : ℕ) → j ≤ n → k ≤ G → P old → P (overStates ends tab c γ d j k old)
+  unfolding overStates
+  states-made j zero old i b r = r
+  states-made j (suc k) old i b r = step j k (overStates ends tab c γ d j k old) i b (states-made j k old i (omega arith) r)
+
+  turns-made : P (entry ends tab c γ (stay d)) → (k : ℕ) → k ≤ suc n → P (overTurns ends tab c γ d G k)
+  unfolding overTurns
+  turns-made r zero b = r
+  turns-made r (suc k) b = states-made k G (overTurns ends tab c γ d G k) (omega arith) (le-refl G) (turns-made r k (omega arith))
+
+  -- What one candidate makes, and each keeps, is made by all of them.
+  module _ (j s : ℕ) (i : j ≤ n) (l : s < G) (hit : (old : ℕ) → P (through ends tab c γ d (control j s) old)) where
+    states-hit : (k old : ℕ) → s < k → k ≤ G → P (overStates ends tab c γ d j k old)
+    unfolding overStates
+    states-hit zero old h b = absurd (omega arith)
+    states-hit (suc k) old h b =
+        elim (decLt s k) [
+          | yes e ↦ step j k (overStates ends tab c γ d j k old) i b (states-hit k old e (omega arith))
+          | no e ↦
+              let same : s ≡ k = omega arith in
+              subst (λ u. P (through ends tab c γ d (control j u) (overStates ends tab c γ d j k old))) same
+              (hit (overStates ends tab c γ d j k old))
+        ]
+
+    turns-hit : (k : ℕ) → j < k → k ≤ suc n → P (overTurns ends tab c γ d G k)
+    unfolding overTurns
+    turns-hit zero h b = absurd (omega arith)
+    turns-hit (suc k) h b =
+        elim (decLt j k) [
+          | yes e ↦ states-made k G (overTurns ends tab c γ d G k) (omega arith) (le-refl G) (turns-hit k e (omega arith))
+          | no e ↦
+              let same : j ≡ k = omega arith in
+              subst (λ u. P (overStates ends tab c γ d u G (overTurns ends tab c γ d G u))) same
+              (states-hit G (overTurns ends tab c γ d G j) l (le-refl G))
+        ]
+
+module _ {t : Thread} {G n : ℕ} {ends : ℕ → TurnEnd} {tab : List ℕ} (fits : ThreadFits G t) (inside : Inside G n ends)
+    (sums : Summed t G n ends tab) (turnOf : ℕ → ℕ) where
+  -- No rule takes the floor.
+  idle : (c d : Control) (s : Step) (x : Right) → Moves t turnOf c 16 s x d → ⊥
+  idle c d s x m =
+      let a = applies-iff t (s .rule) (c .shared) 16 .0 (m .rule) in
+      let r = fits .rules (s .rule) (a .listed) in
+      omega (arith, a .symbol, r .top)
+
+  -- Where a stretch from a control of the table ends, the table has a place.
+  placed : {c : Control} {γ : ℕ} {e : End Control} {ss rest : List Step}
+      → InTable G n c → Stretch (Moves t turnOf) (Switches ends n) c γ e ss rest → InTable G n (endOf e)
+  placed p r = kept {Ctl = InTable G n} moves switches p r
+    where
+      moves : (c d : Control) (γ : ℕ) (s : Step) (x : Right) → InTable G n c → Moves t turnOf c γ s x d → InTable G n d
+      moves c d γ s x p m =
+          let r = fits .rules (s .rule) (applies-iff t (s .rule) (c .shared) γ .0 (m .rule) .listed) in
+          (omega (arith, m .passed), rw (m .shared) (r .next))
+
+      switches : (c d : Control) → InTable G n c → Switches ends n c d → InTable G n d
+      switches c d p s = (omega (arith, s .more, s .passed), rw (s .enter) (inside (c .passed) (s .more) .1))
+
+  -- The cost read off the table is the capped least number of steps.
+  pub pair-cost : (c : Control) (γ : ℕ) (d : Control) → InTable G n c → γ ≤ 15 → InTable G n d
+      → Least (Moves t turnOf) (Switches ends n) c (γ ∷ []) d (pairCost ends tab G n c γ d)
+  pair-cost c γ d p low q =
+      record {
+        some = turns-made ends tab c γ d G n (Made (Moves t turnOf) (Switches ends n) c γ d)
+            (λ j s old i l. joined 16 idle (sums .exact turnOf c γ (pop (control j s)) p (omega arith) (i, l))
+            (sums .exact turnOf (control j s) 16 (stay d) (i, l) (omega arith) q))
+            (alone 16 idle (sums .exact turnOf c γ (stay d) p (omega arith) q)) (suc n) (le-refl (suc n));
+        least = λ {ss} r. least (overs _ _ (floored _ _ 16 idle r));
+      }
+    where
+      lowers : (ss : List Step) (j s old : ℕ) → j ≤ n → s < G → (old ≤ 4096) × (old ≤ length ss)
+          → (through ends tab c γ d (control j s) old ≤ 4096) × (through ends tab c γ d (control j s) old ≤ length ss)
+      lowers ss j s old i l = lower _ _ old (length ss)
+
+      least : {ss : List Step} → Over (Moves t turnOf) (Switches ends n) c (γ ∷ 16 ∷ []) ss d
+          → (pairCost ends tab G n c γ d ≤ 4096) × (pairCost ends tab G n c γ d ≤ length ss)
+      least {ss} (within r) =
+          let e = sums .exact turnOf c γ (stay d) p (omega arith) q .least r in
+          turns-made ends tab c γ d G n (λ v. (v ≤ 4096) × (v ≤ length ss)) (lowers ss) (e .0, omega (arith, e .1)) (suc n)
+          (le-refl (suc n))
+      least {ss} (gone {q = u} {mid = mid} r (within f)) =
+          let i = placed p r in
+          let x = sums .exact turnOf c γ (pop u) p (omega arith) i .least r in
+          let y = sums .exact turnOf u 16 (stay d) i (omega arith) q .least f in
+          turns-hit ends tab c γ d G n (λ v. (v ≤ 4096) × (v ≤ length ss)) (lowers ss) (u .passed) (u .shared) (i .0) (i .1)
+          (λ old. hits _ _ old (length mid) (length ss) x y) (suc n) (omega (arith, i .0)) (le-refl (suc n))
+      least (gone r (gone f o)) = absurd (never 16 idle f)
+
+-- The cost of a full line is the least number of the thread's steps along it.
+pub line-cost : (m : Model) (i : ThreadId) {G n : ℕ} (g γ : ℕ) {line tab : List ℕ} → ThreadFits G (threadOf i m)
+    → g < G → γ ≤ 15
+    → length line ≡ 2 * suc n → States G line → Summed (threadOf i m) G n (endsOf i line) tab
+    → ViewCost m i g (γ ∷ []) line (lineCost i tab G n g γ line)
+line-cost m i {G} {n} g γ {line} {tab} fits low symbol size states sums =
+    record {
+      some = λ h. let r = p .some h in (r .0, line-view m i n g (γ ∷ []) line (r .0) size .1 (r .1), r .2);
+      least = λ {ss} v. p .least (line-view m i n g (γ ∷ []) line ss size .0 v);
+    }
+  where
+    p : Least (Moves (threadOf i m) (turnOf i)) (Switches (endsOf i line) n) (control 0 (firstState i g line)) (γ ∷ [])
+        (control n (lastState i n line)) (lineCost i tab G n g γ line)
+    p =
+        pair-cost fits (ends-inside i n line size states) sums (turnOf i) _ γ _ (first-inside i n line size states g low) symbol
+        (last-inside i n line size states)

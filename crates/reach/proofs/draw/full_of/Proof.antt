@@ -1,0 +1,57 @@
+-- `full_of` meets its contract. The invariant: the lines of up to m states are passed, and q of the place is left.
+use Prim.Native.Nat.{_*_, _-_}
+use native.Mathlib.Omega.{arith}
+use borrow.Author.Needs.{needs}
+use Rattle.reach.proofs.Full.{Reached, reached-starts, reached-steps, reached-small, reached-ends, product-small}
+use Rattle.reach.proofs.draw.full_of.Statement.{statement}
+use Rattle.reach.proofs.draw.full_of.Tie as tie
+
+abbrev Inv-loop : tie.InvT-loop
+Inv-loop g k p q₀ m₀ power₀ q m power = Reached g k p q m power
+
+abbrev μ-loop : tie.MeasureT-loop
+μ-loop g k p q₀ m₀ power₀ q m power = 2 * k - m
+
+loop-holds : tie.Need-loop-holds Inv-loop μ-loop
+loop-holds c = reached-starts _ _ _ (c .pre .2)
+
+mul-power : tie.Need-mul-power Inv-loop μ-loop
+mul-power c =
+    let start = c .before .before in
+    omega (arith, product-small (reached-small (start .pre .1) (start .pre .3) (c .before .loop .inv)) (start .pre .1))
+
+add-m : tie.Need-add-m Inv-loop μ-loop
+add-m c = search needs
+
+loop-less : tie.Need-loop-less Inv-loop μ-loop
+loop-less c = search needs
+
+loop-again : tie.Need-loop-again Inv-loop μ-loop
+loop-again c = reached-steps (c .before .before .pre .4) (c .loop-test .taken) (c .before .loop .inv)
+
+add-pad : tie.Need-add-pad Inv-loop μ-loop
+add-pad c = search needs
+
+pad-requires : tie.Need-pad-requires Inv-loop μ-loop
+pad-requires c κs =
+    let start = c .before .before in
+    (start .pre .0, start .pre .1, start .pre .3, omega arith, omega arith, reached-ends (c .loop-test .left) (c .before .loop .inv) .0)
+
+returns : tie.Need-returns Inv-loop μ-loop
+returns c =
+    (rw (reached-ends (c .before .loop-test .left) (c .before .before .loop .inv) .1) (c .pad .ensures .0), c .pad .ensures .1)
+
+pub full-of-spec : {M : Type 1} → statement M
+full-of-spec =
+    tie.close
+    (tie.spec
+    Inv-loop
+    μ-loop
+    loop-holds
+    mul-power
+    add-m
+    loop-less
+    loop-again
+    add-pad
+    pad-requires
+    returns)

@@ -1,0 +1,24 @@
+-- What one thread sees of a line of shared states: its own turns, and the turn ends between them.
+use mathlib.Core.List.{List}
+use Prim.Native.Nat.{ℕ, suc, _+_, _*_}
+use lib.ListN.{getD}
+use Rattle.model.specs.Walk.{ThreadId, A, B}
+use Rattle.summary.specs.Control.{TurnEnd}
+
+-- The number of a thread's own turn j: even ones are A's.
+abbrev pub turnOf : ThreadId → ℕ → ℕ
+turnOf A j = 2 * j
+turnOf B j = 2 * j + 1
+
+-- The turn end after a thread's own turn j: the line has where that turn ends, and where the other's turn after it does.
+abbrev pub endsOf : ThreadId → List ℕ → ℕ → TurnEnd
+endsOf i line j = record { leave = getD line (turnOf i j) 0; enter = getD line (suc (turnOf i j)) 0 }
+
+-- The state in which a thread's first turn starts, where the run starts in g.
+abbrev pub firstState : ThreadId → ℕ → List ℕ → ℕ
+firstState A g line = g
+firstState B g line = getD line 0 0
+
+-- The state in which a thread's own turn n ends.
+abbrev pub lastState : ThreadId → ℕ → List ℕ → ℕ
+lastState i n line = getD line (turnOf i n) 0

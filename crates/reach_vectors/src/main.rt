@@ -1,0 +1,121 @@
+// Fills the line tables of document 01's models and of a file of random ones, and compares.
+use model::Model;
+use reach::Outcome;
+use vectors::Tally;
+
+// The number of an outcome: 0 where the table is filled.
+fn number(outcome: Outcome) -> u8 {
+    match outcome {
+        Outcome::Done => 0,
+        Outcome::Refused(n) => n,
+    }
+}
+
+// A model whose line table is known: a store one byte short is refused and left as it was, a longer one gets the table and
+// keeps the bytes past it. The store is filled with 170 beforehand.
+fn fills(m: Model, table: &[u8], store: &mut [u8]) -> bool {
+    let n = table.len();
+    if n == 0 {
+        return false;
+    }
+    if store.len() <= n {
+        return false;
+    }
+    let short = n - 1;
+    if number(reach::lines(m, &mut store[0..short])) != 7 {
+        return false;
+    }
+    if !vectors::filled(store, 170) {
+        return false;
+    }
+    if number(reach::lines(m, store)) != 0 {
+        return false;
+    }
+    if !vectors::filled(&store[n..], 170) {
+        return false;
+    }
+    check::same(&store[0..n], table)
+}
+
+// The model that a record holds has this line table.
+fn agrees(bytes: &[u8], table: &[u8]) -> bool {
+    let reading = record::read(bytes);
+    let m = reading.model;
+    let mut store = [170u8; 700];
+    fills(m, table, &mut store)
+}
+
+// A model with a fault in its head is refused by 3, and the store is left as it was.
+fn faulty() -> bool {
+    let reading = record::read(&[]);
+    let m = reading.model;
+    let mut store = [170u8; 700];
+    if number(reach::lines(m, &mut store)) != 3 {
+        return false;
+    }
+    vectors::filled(&store, 170)
+}
+
+// Model One, model Two at K=1, a model with G=1 and K=3, and one with a fault.
+fn document() -> Tally {
+    let once = [
+        202u8,
+        1,
+        3,
+        3,
+        6,
+        0,
+        0,
+        0,
+        1,
+        0,
+        1,
+        1,
+        32,
+        3,
+        1,
+        3,
+        16,
+        2,
+        0,
+    ];
+    let mut t = Tally::new();
+    t = t.counted(agrees(&[75, 2, 1, 1, 1, 1, 0, 1], &[39]));
+    t = t.counted(agrees(&once, &[19, 6, 0]));
+    t = t.counted(agrees(&[11, 1, 3, 0], &[63]));
+    t.counted(faulty())
+}
+
+// One case of the file after another: a record with its length, three bytes for its verdict, and the line table with its
+// length.
+fn corpus(s: &[u8]) -> Tally {
+    let mut t = Tally::new();
+    let mut at = 0;
+    while at < s.len() {
+        let model = vectors::part_at(s, at);
+        let start = model.start;
+        let end = model.end;
+        let table = vectors::part_at(s, end + 3);
+        let from = table.start;
+        let to = table.end;
+        t = t.counted(agrees(&s[start..end], &s[from..to]));
+        if to <= at {
+            return t;
+        }
+        at = to;
+    }
+    t
+}
+
+// The cases of a file, which the store has room for.
+fn file(name: &[u8], store: &mut [u8]) {
+    let n = vectors::load(name, store);
+    corpus(&store[0..n]).report(name);
+}
+
+fn main() {
+    document().report(b"document 01");
+    let mut store = [0u8; 370000];
+    file(b"verdicts-1.bin", &mut store);
+    file(b"verdicts-2.bin", &mut store);
+}
