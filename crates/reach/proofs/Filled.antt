@@ -1,5 +1,5 @@
--- The costs of the lines, filled in one after the other: a list is written value by value; a line whose first turn end has
--- the lane that the table is solved for gets its least steps, and each other line keeps its cost.
+-- The costs of the lines, filled in one after the other: a line whose first turn end has the lane that the table is solved
+-- for gets its least steps, and each other line keeps its cost.
 use mathlib.Core.Bool.{cond}
 use mathlib.Core.List.{List}
 use mathlib.Core.Path.{_≡_, refl, sym, subst, _∙_}
@@ -8,8 +8,7 @@ use native.Mathlib.Decide.{ℕ-discrete}
 use native.Mathlib.Omega.{arith}
 use borrow.Author.Tests.{eq-eqb, ne-eqb}
 use lib.Dec.{eqb}
-use lib.ListN.{length, getD, set, length-set}
-use lib.Seq.{getD-set-same, getD-set-other}
+use lib.ListN.{getD}
 use Rattle.model.specs.declared.Thread.{Thread}
 use Rattle.model.specs.Fits.{ThreadFits}
 use Rattle.model.specs.Lines.{digits}
@@ -30,34 +29,6 @@ chosen old same e h = h ∙ rw (eq-eqb _ _ (sym same ∙ e)) refl
 -- Another line keeps its cost.
 pub passed : {a b lane old : ℕ} (cost : ℕ) → a ≡ b → (a ≡ lane → ⊥) → old ≡ cond (eqb b lane) cost old
 passed cost same other = rw (ne-eqb _ _ (λ e. other (same ∙ e))) refl
-
--- A list whose values below k are those of f, and the others the old ones.
-pub record Filled (f : ℕ → ℕ) (k : ℕ) (old new : List ℕ) : Type 0 where
-  pub size : length new ≡ length old
-  pub below : (v : ℕ) → v < k → getD new v 0 ≡ f v
-  pub above : (v : ℕ) → k ≤ v → getD new v 0 ≡ getD old v 0
-
--- At the start nothing is written.
-pub filled-start : (f : ℕ → ℕ) (old : List ℕ) → Filled f 0 old old
-filled-start f old = record { size = refl; below = λ v h. absurd (omega arith); above = λ v h. refl }
-
--- One value more is written.
-pub filled-next : {f : ℕ → ℕ} {k x : ℕ} {old new : List ℕ} → Filled f k old new → k < length new → x ≡ f k
-    → Filled f (k + 1) old (set new k x)
-filled-next {f} {k} {x} {old} {new} r room e =
-    record {
-      size = length-set new k x ∙ r .size;
-      below = λ v l. elim (ℕ-discrete v k) [
-        | yes s ↦ rw (s, getD-set-same new k x 0 room) e
-        | no n ↦ rw (getD-set-other new k v x 0 n) (r .below v (omega arith))
-      ];
-      above = λ v l. getD-set-other new k v x 0 (λ s. omega arith) ∙ r .above v (omega arith);
-    }
-
--- At the end all values are written.
-pub filled-all : {f : ℕ → ℕ} {k count size : ℕ} {old new : List ℕ} → Filled f k old new → count ≡ size → count ≤ k
-    → (v : ℕ) → v < size → getD new v 0 ≡ f v
-filled-all r e l v h = r .below v (omega arith)
 
 -- The number of full lines.
 pub full : (g n : ℕ) {c : ℕ} → c ≡ g ^ (2 * n + 2) → c ≡ g ^ (2 * suc n)

@@ -3,6 +3,7 @@ pub mod Answers
 pub mod Digits
 pub mod Entries
 pub mod Filled
+pub mod Front
 pub mod Full
 pub mod Marked
 pub mod Marks

@@ -13,29 +13,24 @@ use Rattle.model.specs.Runs.{Marked}
 use Rattle.model.specs.Walk.{ThreadId, A, B, threadOf}
 use Rattle.model.proofs.Positions.{value-below, digits-value, line-at}
 use Rattle.model.proofs.Turns.{marked-padded}
-use Rattle.summary.specs.Control.{Moves, Switches}
 use Rattle.reach.specs.Answer.{LineTable}
 use Rattle.reach.specs.Bits.{padded, fullAt, Drawn}
-use Rattle.reach.specs.Cost.{control, Least, LeastAlong, ViewCost, Costs}
-use Rattle.reach.specs.Ends.{turnOf, endsOf, firstState, lastState}
+use Rattle.reach.specs.Cost.{LeastAlong, ViewCost, Costs}
 use Rattle.reach.proofs.Along.{line-view}
 use Rattle.reach.proofs.Views.{marked-views}
 
 -- The least steps of the runs of a thread along a full line are those of its views of the line.
-pub view-cost : (m : Model) (i : ThreadId) (n g γ : ℕ) (line : List ℕ) {cost : ℕ} → length line ≡ 2 * suc n
-    → Least (Moves (threadOf i m) (turnOf i)) (Switches (endsOf i line) n) (control 0 (firstState i g line)) (γ ∷ [])
-    (control n (lastState i n line)) cost
-    → ViewCost m i g (γ ∷ []) line cost
-view-cost m i n g γ line size p =
+pub view-cost : (m : Model) (i : ThreadId) (n : ℕ) (line : List ℕ) {cost : ℕ} → length line ≡ 2 * suc n
+    → LeastAlong (threadOf i m) i n (m .start .0) line cost → ViewCost m i line cost
+view-cost m i n line size p =
     record {
-      some = λ h. let r = p .some h in (r .0, line-view m i n g (γ ∷ []) line (r .0) size .1 (r .1), r .2);
-      least = λ {ss} v. p .least (line-view m i n g (γ ∷ []) line ss size .0 v);
+      some = λ h. let r = p .some h in (r .0, line-view m i n (m .start .0) _ line (r .0) size .1 (r .1), r .2);
+      least = λ {ss} v. p .least (line-view m i n (m .start .0) _ line ss size .0 v);
     }
 
 -- A line is marked exactly if both costs are reached.
 pub marked-costs : (m : Model) (line : List ℕ) {a b : ℕ}
-    → ViewCost m A (m .start .0) (m .a .first .0 ∷ []) line a → ViewCost m B (m .start .0) (m .b .first .0 ∷ []) line b
-    → Marked m line ↔ ((a ≤ 4096) × (b ≤ 4096))
+    → ViewCost m A line a → ViewCost m B line b → Marked m line ↔ ((a ≤ 4096) × (b ≤ 4096))
 marked-costs m line p q = (
   λ r. let v = marked-views line .0 r in (p .least (v .2) .0, q .least (v .3) .0),
   λ h. let v = p .some (h .0) in let w = q .some (h .1) in marked-views line .1 (v .0, w .0, v .1, w .1),
@@ -85,8 +80,8 @@ drawn m n a b k ca cb p h =
     let same : digits (m .g) (2 * suc n) (value (m .g) full) ≡ full =
     subst (λ i. digits (m .g) i (value (m .g) full) ≡ full) size (digits-value (m .g) full states) in
     let low : value (m .g) full < m .g ^ (2 * suc n) = subst (λ i. value (m .g) full < m .g ^ i) size (value-below (m .g) full states) in
-    let one = view-cost m A n (m .start .0) (m .a .first .0) full size (at A (m .a) same (ca (value (m .g) full) low)) in
-    let other = view-cost m B n (m .start .0) (m .b .first .0) full size (at B (m .b) same (cb (value (m .g) full) low)) in
+    let one = view-cost m A n full size (at A (m .a) same (ca (value (m .g) full) low)) in
+    let other = view-cost m B n full size (at B (m .b) same (cb (value (m .g) full) low)) in
     let padding : Marked m line ↔ Marked m full =
     rw (last-any (m .start .0) 0 line (l .some)) at (marked-padded {m = m} (2 * m .k - length line) line) in
     Iff·trans padding (marked-costs m full one other)

@@ -4,16 +4,14 @@
 use mathlib.Core.List.{List, [], _∷_, _++_, append-nil}
 use mathlib.Core.Logic.{_⊎_, inl, inr}
 use mathlib.Core.Path.{_≡_, refl, subst}
-use Prim.Native.Nat.{ℕ, zero, suc, _+_, _*_, _≤_, _<_, min}
+use Prim.Native.Nat.{ℕ, zero, suc, _+_, _≤_, _<_, min}
 use native.Mathlib.Decide.{decLt}
 use native.Mathlib.Nat.{le-refl}
 use native.Mathlib.Omega.{arith}
 use lib.ListN.{length, length-append}
-use Rattle.model.specs.declared.Model.{Model}
 use Rattle.model.specs.declared.Right.{Right}
 use Rattle.model.specs.declared.Thread.{Thread}
-use Rattle.model.specs.Lines.{States}
-use Rattle.model.specs.Walk.{ThreadId, threadOf, Step}
+use Rattle.model.specs.Walk.{Step}
 use Rattle.model.proofs.Inside.{applies-iff}
 use Rattle.model.specs.Fits.{ThreadFits}
 use Rattle.summary.specs.Control.{Control, TurnEnd, Moves, Switches, entry, InTable, Inside, Summed}
@@ -23,9 +21,8 @@ use Rattle.summary.specs.Table.{capped, Exact}
 use Rattle.summary.proofs.Floors.{floored, unfloored}
 use Rattle.summary.proofs.Overs.{Over, within, gone, overs, pops, stays}
 use Rattle.summary.proofs.Relaxing.{better}
-use Rattle.reach.specs.Cost.{ViewCost, control, through, overStates, overTurns, pairCost, lineCost, Least}
-use Rattle.reach.specs.Ends.{turnOf, endsOf, firstState, lastState}
-use Rattle.reach.proofs.Along.{line-view, ends-inside, first-inside, last-inside}
+use Rattle.reach.specs.Cost.{control, through, overStates, overTurns, pairCost, Least}
+use Rattle.reach.specs.Ends.{turnOf}
 
 -- A count that is reached and at most m is so after a candidate more, and after one that is.
 lower : (x y old m : ℕ) → (old ≤ 4096) × (old ≤ m) → (bestOf 0 x y old ≤ 4096) × (bestOf 0 x y old ≤ m)
@@ -145,7 +142,7 @@ module _ {t : Thread} {G n : ℕ} {ends : ℕ → TurnEnd} {tab : List ℕ} (fit
 
   -- The cost read off the table is the capped least number of steps.
   pub pair-cost : (c : Control) (γ : ℕ) (d : Control) → InTable G n c → γ ≤ 15 → InTable G n d
-      → Least (Moves t turnOf) (Switches ends n) c (γ ∷ []) d (pairCost ends tab G n c γ d)
+      → Least (λ ss. Path (Moves t turnOf) (Switches ends n) c (γ ∷ []) ss d) (pairCost ends tab G n c γ d)
   pair-cost c γ d p low q =
       record {
         some = turns-made ends tab c γ d G n (Made (Moves t turnOf) (Switches ends n) c γ d)
@@ -172,20 +169,3 @@ module _ {t : Thread} {G n : ℕ} {ends : ℕ → TurnEnd} {tab : List ℕ} (fit
           turns-hit ends tab c γ d G n (λ v. (v ≤ 4096) × (v ≤ length ss)) (lowers ss) (u .passed) (u .shared) (i .0) (i .1)
           (λ old. hits _ _ old (length mid) (length ss) x y) (suc n) (omega (arith, i .0)) (le-refl (suc n))
       least (gone r (gone f o)) = absurd (never 16 idle f)
-
--- The cost of a full line is the least number of the thread's steps along it.
-pub line-cost : (m : Model) (i : ThreadId) {G n : ℕ} (g γ : ℕ) {line tab : List ℕ} → ThreadFits G (threadOf i m)
-    → g < G → γ ≤ 15
-    → length line ≡ 2 * suc n → States G line → Summed (threadOf i m) G n (endsOf i line) tab
-    → ViewCost m i g (γ ∷ []) line (lineCost i tab G n g γ line)
-line-cost m i {G} {n} g γ {line} {tab} fits low symbol size states sums =
-    record {
-      some = λ h. let r = p .some h in (r .0, line-view m i n g (γ ∷ []) line (r .0) size .1 (r .1), r .2);
-      least = λ {ss} v. p .least (line-view m i n g (γ ∷ []) line ss size .0 v);
-    }
-  where
-    p : Least (Moves (threadOf i m) (turnOf i)) (Switches (endsOf i line) n) (control 0 (firstState i g line)) (γ ∷ [])
-        (control n (lastState i n line)) (lineCost i tab G n g γ line)
-    p =
-        pair-cost fits (ends-inside i n line size states) sums (turnOf i) _ γ _ (first-inside i n line size states g low) symbol
-        (last-inside i n line size states)

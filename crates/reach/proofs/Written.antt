@@ -4,40 +4,28 @@ use mathlib.Core.List.{List}
 use mathlib.Core.Path.{_≡_, refl, _∙_}
 use Prim.Native.Nat.{ℕ, _+_, _*_, _/_, _%_, _<_, _≤_}
 use native.Mathlib.Omega.{arith}
-use borrow.Author.Count.{below-more}
 use borrow.Author.Tests.{le-leb}
-use lib.ListN.{length, getD, drop, set, length-set}
-use lib.Seq.{getD-set-same, getD-set-other, drop-set-lt}
+use lib.ListN.{length, getD, drop, set}
+use lib.Seq.{drop-set-lt}
 use Rattle.model.specs.Lines.{bits, tableBits}
 use Rattle.reach.specs.Bits.{bitAt, bytesFor, fullAt, Drawn}
 use Rattle.reach.specs.Marks.{marked, Holds}
+use Rattle.reach.proofs.Front.{Front, front-start, front-next}
 use Rattle.reach.proofs.Marked.{spare-place, marked-follows}
 
 -- Of a table of `bytes` bytes, those below `at` are written.
 pub record Written (f : ℕ → Bool) (bytes : ℕ) (old new : List ℕ) (at : ℕ) : Type 0 where
-  pub size : length new ≡ length old
-  pub done : (i : ℕ) → i < at → Holds f (getD new i 0) i
+  pub front : Front (λ i byte. Holds f byte i) at old new
   pub rest : drop bytes new ≡ drop bytes old
 
 pub written-starts : (f : ℕ → Bool) (bytes : ℕ) (old : List ℕ) → Written f bytes old old 0
-written-starts f bytes old = record {
-  size = refl;
-  done = λ i h. absurd (omega arith);
-  rest = refl;
-}
+written-starts f bytes old = record { front = front-start _ old; rest = refl }
 
 pub written-steps : {f : ℕ → Bool} {bytes : ℕ} {old new : List ℕ} {at : ℕ} (byte : ℕ) → at < bytes → bytes ≤ length old
     → Holds f byte at → Written f bytes old new at → Written f bytes old (set new at byte) (at + 1)
-written-steps {f} {bytes} {old} {new} {at} byte h l x w =
-    let inside : at < length new = omega (arith, w .size) in
-    record {
-      size = length-set new at byte ∙ w .size;
-      done =
-          below-more (λ i. Holds f (getD (set new at byte) i 0) i) at
-          (λ i lt. rw (getD-set-other new at i byte 0 (λ e. omega arith)) (w .done i lt))
-          (rw getD-set-same x);
-      rest = drop-set-lt bytes new at byte h ∙ w .rest;
-    }
+written-steps {old = old} {new = new} {at = at} byte h l x w =
+    let inside : at < length new = omega (arith, w .front .size) in
+    record { front = front-next (w .front) inside x; rest = drop-set-lt _ new at byte h ∙ w .rest }
 
 -- The bit of a place that is written is its mark.
 bit-written : {f : ℕ → Bool} {bytes : ℕ} {old new : List ℕ} → Written f bytes old new bytes
@@ -45,7 +33,7 @@ bit-written : {f : ℕ → Bool} {bytes : ℕ} {old new : List ℕ} → Written 
 bit-written {f} {bytes} w p h =
     let byte : p / 8 < bytes = omega arith in
     let place : 8 * (p / 8) + p % 8 ≡ p = omega arith in
-    let b = w .done (p / 8) byte (p % 8) (omega arith) in
+    let b = w .front .below (p / 8) byte (p % 8) (omega arith) in
     rw place at b
 
 -- A table that is written whole is drawn.
@@ -55,7 +43,7 @@ pub written-drawn : (g k : ℕ) (a b : List ℕ) {bytes at : ℕ} {old new : Lis
 written-drawn g k a b {old = old} {new = new} e f d =
     let w : Written (marked g k a b) (bytesFor g k) old new (bytesFor g k) = rw (e, f) at d in
     record {
-      size = w .size;
+      size = w .front .size;
       marks = λ p h. rw (bit-written w p (omega arith)) (marked-follows g k a b p h);
       spare = λ p h l. bit-written w p l ∙ spare-place g k a b p h;
       beyond = w .rest;

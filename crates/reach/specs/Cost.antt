@@ -5,11 +5,10 @@ use mathlib.Core.List.{List, [], _∷_}
 use mathlib.Core.Path.{_≡_}
 use Prim.Native.Nat.{ℕ, zero, suc, _*_, _^_, _≤_, _<_}
 use lib.ListN.{length, getD}
-use Rattle.model.specs.declared.Right.{Right}
 use Rattle.model.specs.declared.Thread.{Thread}
 use Rattle.model.specs.Lines.{digits}
 use Rattle.model.specs.declared.Model.{Model}
-use Rattle.model.specs.Walk.{ThreadId, A, B, Step}
+use Rattle.model.specs.Walk.{ThreadId, A, B, threadOf}
 use Rattle.reach.specs.View.{View}
 use Rattle.summary.specs.Control.{Control, TurnEnd, Moves, Switches, entry}
 use Rattle.summary.specs.Edges.{bestOf}
@@ -45,16 +44,14 @@ abbrev pub lineCost : ThreadId → List ℕ → ℕ → ℕ → ℕ → ℕ → 
 lineCost i tab G n g γ line =
     pairCost (endsOf i line) tab G n (control 0 (firstState i g line)) γ (control n (lastState i n line))
 
--- A cost is the capped least number of steps of the runs from a control and a stack to a control.
-pub record Least {C S : Type 0} (Move : C → ℕ → S → Right → C → Type 0) (Switch : C → C → Type 0)
-    (c : C) (w : List ℕ) (d : C) (cost : ℕ) : Type 0 where
-  pub some : cost ≤ 4096 → (ss : List S) × Path Move Switch c w ss d × (capped (length ss) ≡ cost)
-  pub least : {ss : List S} → Path Move Switch c w ss d → (cost ≤ 4096) × (cost ≤ length ss)
+-- A cost is the capped least number of steps of some runs, given by their lists of steps; 4,097 where there is none.
+pub record Least {S : Type 0} (Run : List S → Type 0) (cost : ℕ) : Type 0 where
+  pub some : cost ≤ 4096 → (ss : List S) × Run ss × (capped (length ss) ≡ cost)
+  pub least : {ss : List S} → Run ss → (cost ≤ 4096) × (cost ≤ length ss)
 
--- A cost is the capped least number of a thread's steps in its views of a line.
-pub record ViewCost (m : Model) (i : ThreadId) (g : ℕ) (w line : List ℕ) (cost : ℕ) : Type 0 where
-  pub some : cost ≤ 4096 → (ss : List Step) × View m i 0 g w line ss × (capped (length ss) ≡ cost)
-  pub least : {ss : List Step} → View m i 0 g w line ss → (cost ≤ 4096) × (cost ≤ length ss)
+-- A cost is the capped least number of a thread's steps in its views of a line, from the start of a model.
+abbrev pub ViewCost : Model → ThreadId → List ℕ → ℕ → Type 0
+ViewCost m i line cost = Least (View m i 0 (m .start .0) (threadOf i m .first .0 ∷ []) line) cost
 
 -- The thread that a flag names: B where it is set.
 abbrev pub idOf : Bool → ThreadId
@@ -64,8 +61,9 @@ idOf true = B
 -- A cost is the capped least number of steps of a thread along a full line with n turn ends, where the run starts in g.
 abbrev pub LeastAlong : Thread → ThreadId → ℕ → ℕ → List ℕ → ℕ → Type 0
 LeastAlong t i n g line cost =
-    Least (Moves t (turnOf i)) (Switches (endsOf i line) n) (control 0 (firstState i g line)) (t .first .0 ∷ [])
-    (control n (lastState i n line)) cost
+    Least
+    (λ ss. Path (Moves t (turnOf i)) (Switches (endsOf i line) n) (control 0 (firstState i g line)) (t .first .0 ∷ []) ss
+    (control n (lastState i n line))) cost
 
 -- A list of costs for a thread: at the value of each full line, the capped least number of steps of the thread along it.
 -- G states, n turn ends of the thread, so 2n + 2 states in a line; g is the state in which the run starts.

@@ -25,28 +25,191 @@ ghost use Rattle.summary.specs.Edges.{bestOf, cell};
 ghost use Rattle.reach.specs.Cost.{control, overStates, pairCost, idOf, Costs};
 ghost use Rattle.reach.specs.Lanes.{placeAt, endLane, LaneTo, lineLane, costOf, CostsTo};
 
-// The entry of a stretch with `gap` turn ends inside; `lane` is that of the last of them.
-fn entry_at(t: &[u64], gap: usize, s: usize, top: usize, d: usize, lane: usize) -> u64
-    requires { ⌜ (length (now t) ≡ size) × (gap ≤ 2) × (s < 4) × (top < 17) × (d < 8) × (lane < 16) ⌝ }
-    ensures { λ r. ⌜ r ≡ cell (now (t .entry)) (placeAt gap s top d lane) ⌝ }
+// The costs of all full lines of a thread with n turn ends.
+pub fn fill(
+    t: &mut [u64],
+    costs: &mut [u64],
+    g: usize,
+    n: usize,
+    other: bool,
+    start: usize,
+    th: Thread,
+)
+    requires { ⌜
+        (length (now t) ≡ size) × (length (now costs) ≡ 4096) × (1 ≤ g) × (g ≤ 4) × (n ≤ 2) × (start < g) × ThreadFits g th
+        ⌝ }
+    ensures { λ r. ⌜ Costs th (idOf other) g n start (now (costs .exit)) ⌝ }
 {
-    if gap == 0 {
-        return t[place(s, top, d)];
+    let top = th.first.0 as usize;
+    close_plain(t, g, th);
+    if n == 0 {
+        fill_all(t, costs, g, n, other, start, top);
+        return;
     }
-    if gap == 1 {
-        return t[lane_place(FIRST, s, top, d) + lane];
+    close_first(t, g, th);
+    if n == 1 {
+        fill_all(t, costs, g, n, other, start, top);
+        return;
     }
-    t[lane_place(SECOND, s, top, d) + lane]
+    fill_ends(t, costs, g, other, start, th);
 }
 
-// The lesser of a count and of two stretches one after the other.
-fn joined(x: u64, y: u64, old: u64) -> u64
-    ensures { λ r. ⌜ r ≡ bestOf 0 x y old ⌝ }
+// The costs of all full lines.
+fn fill_all(t: &[u64], costs: &mut [u64], g: usize, n: usize, other: bool, start: usize, top: usize)
+    requires { ⌜
+        (length (now t) ≡ size) × (length (now costs) ≡ 4096) × (1 ≤ g) × (g ≤ 4) × (n ≤ 2) × (start < g) × (top < 17)
+        ⌝ }
+    ensures { λ r. ⌜
+        ((v : ℕ) → v < g ^ (2 * suc n)
+        → getD (now (costs .exit)) v 0 ≡ costOf (idOf other) (now (t .entry)) g n start top v)
+        ⌝ }
 {
-    if 4096 < x {
-        return old;
+    let count = power(g, 2 * n + 2);
+    let mut v = 0;
+    while v < count {
+        costs[v] = line_cost(t, g, n, other, start, top, v);
+        v += 1;
     }
-    better(x, y, old)
+}
+
+// The costs of all full lines with two turn ends, one first turn end after the other.
+fn fill_ends(t: &mut [u64], costs: &mut [u64], g: usize, other: bool, start: usize, th: Thread)
+    requires { ⌜
+        (length (now t) ≡ size) × (length (now costs) ≡ 4096) × (1 ≤ g) × (g ≤ 4) × (start < g) × ThreadFits g th
+        × Solved (First th g) second (now t)
+        ⌝ }
+    ensures { λ r. ⌜ Costs th (idOf other) g 2 start (now (costs .exit)) ⌝ }
+{
+    let mut o = 0;
+    while o < g {
+        fill_from(t, costs, g, other, start, o, th);
+        o += 1;
+    }
+}
+
+// The costs of the full lines whose first turn end is left at o.
+fn fill_from(
+    t: &mut [u64],
+    costs: &mut [u64],
+    g: usize,
+    other: bool,
+    start: usize,
+    o: usize,
+    th: Thread,
+)
+    requires { ⌜
+        (length (now t) ≡ size) × (length (now costs) ≡ 4096) × (1 ≤ g) × (g ≤ 4) × (start < g) × (o < g) × ThreadFits g th
+        × Solved (First th g) second (now t) × CostsTo th (idOf other) g start (o * 4) (now costs)
+        ⌝ }
+    ensures solved { λ r. ⌜ Solved (First th g) second (now (t .exit)) ⌝ }
+    ensures known { λ r. ⌜ CostsTo th (idOf other) g start (o * 4 + 4) (now (costs .exit)) ⌝ }
+{
+    let top = th.first.0 as usize;
+    let mut i = 0;
+    while i < g {
+        close_second(t, g, o, i, th);
+        fill_slice(t, costs, g, other, start, top, o * 4 + i);
+        i += 1;
+    }
+}
+
+// The costs of the full lines whose first turn end has this lane.
+fn fill_slice(
+    t: &[u64],
+    costs: &mut [u64],
+    g: usize,
+    other: bool,
+    start: usize,
+    top: usize,
+    lane: usize,
+)
+    requires { ⌜
+        (length (now t) ≡ size) × (length (now costs) ≡ 4096) × (1 ≤ g) × (g ≤ 4) × (start < g) × (top < 17)
+        ⌝ }
+    ensures { λ r. ⌜
+        ((v : ℕ) → v < g ^ 6
+        → getD (now (costs .exit)) v 0
+        ≡ cond (eqb (lineLane (idOf other) g 6 v 0) lane) (costOf (idOf other) (now (t .entry)) g 2 start top v)
+        (getD (now (costs .entry)) v 0))
+        ⌝ }
+{
+    let count = power(g, 6);
+    let mut v = 0;
+    while v < count {
+        costs[v] = slice_cost(t, g, other, start, top, lane, v, costs[v]);
+        v += 1;
+    }
+}
+
+// The cost of a full line with two turn ends where its first one has this lane, and else the old value.
+fn slice_cost(
+    t: &[u64],
+    g: usize,
+    other: bool,
+    start: usize,
+    top: usize,
+    lane: usize,
+    v: usize,
+    old: u64,
+) -> u64
+    requires { ⌜
+        (length (now t) ≡ size) × (1 ≤ g) × (g ≤ 4) × (start < g) × (top < 17) × (v < g ^ 6)
+        ⌝ }
+    ensures { λ r. ⌜
+        r ≡ cond (eqb (lineLane (idOf other) g 6 v 0) lane) (costOf (idOf other) (now (t .entry)) g 2 start top v) old
+        ⌝ }
+{
+    if lane_of(g, 6, v, other, 0) == lane {
+        line_cost(t, g, 2, other, start, top, v)
+    } else {
+        old
+    }
+}
+
+// The cost of the full line whose value is v.
+fn line_cost(t: &[u64], g: usize, n: usize, other: bool, start: usize, top: usize, v: usize) -> u64
+    requires { ⌜
+        (length (now t) ≡ size) × (1 ≤ g) × (g ≤ 4) × (n ≤ 2) × (start < g) × (top < 17) × (v < g ^ (2 * suc n))
+        ⌝ }
+    ensures { λ r. ⌜ r ≡ costOf (idOf other) (now (t .entry)) g n start top v ⌝ }
+{
+    let len = 2 * n + 2;
+    let from = first_state(g, len, v, other, start);
+    let to = state_at(g, len, v, turn_of(other, n));
+    let a = lane_of(g, len, v, other, 0);
+    let b = lane_of(g, len, v, other, 1);
+    pair_cost(t, g, n, from, top, to, a, b)
+}
+
+// The cost of a thread that starts at a state with one symbol and ends n turn ends later at another; a and b are the lanes
+// of the turn ends.
+fn pair_cost(
+    t: &[u64],
+    g: usize,
+    n: usize,
+    from: usize,
+    top: usize,
+    to: usize,
+    a: usize,
+    b: usize,
+) -> u64
+    requires { ⌜
+        (length (now t) ≡ size) × (g ≤ 4) × (n ≤ 2) × (from < 4) × (top < 17) × (to < 4) × (a < 16) × (b < 16)
+        ⌝ }
+    ensures { λ r. ⌜
+        ((ends : ℕ → TurnEnd) → a ≡ endLane ends 0 → b ≡ endLane ends 1
+        → r ≡ pairCost ends (now (t .entry)) g n (control 0 from) top (control n to))
+        ⌝ }
+{
+    let last = lane_to(n, a, b);
+    let mut best = entry_at(t, n, from, top, 4 + to, last);
+    let mut j = 0;
+    while j <= n {
+        let before = lane_to(j, a, b);
+        best = over_states(t, g, n, j, from, top, to, before, last, best);
+        j += 1;
+    }
+    best
 }
 
 // The least of a count and of the runs whose symbol goes after j turn ends; `before` and `last` are the lanes of the turn
@@ -83,6 +246,30 @@ fn over_states(
     best
 }
 
+// The lesser of a count and of two stretches one after the other.
+fn joined(x: u64, y: u64, old: u64) -> u64
+    ensures { λ r. ⌜ r ≡ bestOf 0 x y old ⌝ }
+{
+    if 4096 < x {
+        return old;
+    }
+    better(x, y, old)
+}
+
+// The entry of a stretch with `gap` turn ends inside; `lane` is that of the last of them.
+fn entry_at(t: &[u64], gap: usize, s: usize, top: usize, d: usize, lane: usize) -> u64
+    requires { ⌜ (length (now t) ≡ size) × (gap ≤ 2) × (s < 4) × (top < 17) × (d < 8) × (lane < 16) ⌝ }
+    ensures { λ r. ⌜ r ≡ cell (now (t .entry)) (placeAt gap s top d lane) ⌝ }
+{
+    if gap == 0 {
+        return t[place(s, top, d)];
+    }
+    if gap == 1 {
+        return t[lane_place(FIRST, s, top, d) + lane];
+    }
+    t[lane_place(SECOND, s, top, d) + lane]
+}
+
 // The lane of the turn end before turn j, of the two that there are at most.
 fn lane_to(j: usize, a: usize, b: usize) -> usize
     requires { ⌜ (j ≤ 2) × (a < 16) × (b < 16) ⌝ }
@@ -91,191 +278,4 @@ fn lane_to(j: usize, a: usize, b: usize) -> usize
         ⌝ }
 {
     if j == 1 { a } else { b }
-}
-
-// The cost of a thread that starts at a state with one symbol and ends n turn ends later at another; a and b are the lanes
-// of the turn ends.
-fn pair_cost(
-    t: &[u64],
-    g: usize,
-    n: usize,
-    from: usize,
-    top: usize,
-    to: usize,
-    a: usize,
-    b: usize,
-) -> u64
-    requires { ⌜
-        (length (now t) ≡ size) × (g ≤ 4) × (n ≤ 2) × (from < 4) × (top < 17) × (to < 4) × (a < 16) × (b < 16)
-        ⌝ }
-    ensures { λ r. ⌜
-        ((ends : ℕ → TurnEnd) → a ≡ endLane ends 0 → b ≡ endLane ends 1
-        → r ≡ pairCost ends (now (t .entry)) g n (control 0 from) top (control n to))
-        ⌝ }
-{
-    let last = lane_to(n, a, b);
-    let mut best = entry_at(t, n, from, top, 4 + to, last);
-    let mut j = 0;
-    while j <= n {
-        let before = lane_to(j, a, b);
-        best = over_states(t, g, n, j, from, top, to, before, last, best);
-        j += 1;
-    }
-    best
-}
-
-// The cost of the full line whose value is v.
-fn line_cost(t: &[u64], g: usize, n: usize, other: bool, start: usize, top: usize, v: usize) -> u64
-    requires { ⌜
-        (length (now t) ≡ size) × (1 ≤ g) × (g ≤ 4) × (n ≤ 2) × (start < g) × (top < 17) × (v < g ^ (2 * suc n))
-        ⌝ }
-    ensures { λ r. ⌜ r ≡ costOf (idOf other) (now (t .entry)) g n start top v ⌝ }
-{
-    let len = 2 * n + 2;
-    let from = first_state(g, len, v, other, start);
-    let to = state_at(g, len, v, turn_of(other, n));
-    let a = lane_of(g, len, v, other, 0);
-    let b = lane_of(g, len, v, other, 1);
-    pair_cost(t, g, n, from, top, to, a, b)
-}
-
-// The costs of all full lines.
-fn fill_all(t: &[u64], costs: &mut [u64], g: usize, n: usize, other: bool, start: usize, top: usize)
-    requires { ⌜
-        (length (now t) ≡ size) × (length (now costs) ≡ 4096) × (1 ≤ g) × (g ≤ 4) × (n ≤ 2) × (start < g) × (top < 17)
-        ⌝ }
-    ensures { λ r. ⌜
-        ((v : ℕ) → v < g ^ (2 * suc n)
-        → getD (now (costs .exit)) v 0 ≡ costOf (idOf other) (now (t .entry)) g n start top v)
-        ⌝ }
-{
-    let count = power(g, 2 * n + 2);
-    let mut v = 0;
-    while v < count {
-        costs[v] = line_cost(t, g, n, other, start, top, v);
-        v += 1;
-    }
-}
-
-// The cost of a full line with two turn ends where its first one has this lane, and else the old value.
-fn slice_cost(
-    t: &[u64],
-    g: usize,
-    other: bool,
-    start: usize,
-    top: usize,
-    lane: usize,
-    v: usize,
-    old: u64,
-) -> u64
-    requires { ⌜
-        (length (now t) ≡ size) × (1 ≤ g) × (g ≤ 4) × (start < g) × (top < 17) × (v < g ^ 6)
-        ⌝ }
-    ensures { λ r. ⌜
-        r ≡ cond (eqb (lineLane (idOf other) g 6 v 0) lane) (costOf (idOf other) (now (t .entry)) g 2 start top v) old
-        ⌝ }
-{
-    if lane_of(g, 6, v, other, 0) == lane {
-        line_cost(t, g, 2, other, start, top, v)
-    } else {
-        old
-    }
-}
-
-// The costs of the full lines whose first turn end has this lane.
-fn fill_slice(
-    t: &[u64],
-    costs: &mut [u64],
-    g: usize,
-    other: bool,
-    start: usize,
-    top: usize,
-    lane: usize,
-)
-    requires { ⌜
-        (length (now t) ≡ size) × (length (now costs) ≡ 4096) × (1 ≤ g) × (g ≤ 4) × (start < g) × (top < 17)
-        ⌝ }
-    ensures { λ r. ⌜
-        ((v : ℕ) → v < g ^ 6
-        → getD (now (costs .exit)) v 0
-        ≡ cond (eqb (lineLane (idOf other) g 6 v 0) lane) (costOf (idOf other) (now (t .entry)) g 2 start top v)
-        (getD (now (costs .entry)) v 0))
-        ⌝ }
-{
-    let count = power(g, 6);
-    let mut v = 0;
-    while v < count {
-        costs[v] = slice_cost(t, g, other, start, top, lane, v, costs[v]);
-        v += 1;
-    }
-}
-
-// The costs of the full lines whose first turn end is left at o.
-fn fill_from(
-    t: &mut [u64],
-    costs: &mut [u64],
-    g: usize,
-    other: bool,
-    start: usize,
-    o: usize,
-    th: Thread,
-)
-    requires { ⌜
-        (length (now t) ≡ size) × (length (now costs) ≡ 4096) × (1 ≤ g) × (g ≤ 4) × (start < g) × (o < g) × ThreadFits g th
-        × Solved (First th g) second (now t) × CostsTo th (idOf other) g start (o * 4) (now costs)
-        ⌝ }
-    ensures solved { λ r. ⌜ Solved (First th g) second (now (t .exit)) ⌝ }
-    ensures known { λ r. ⌜ CostsTo th (idOf other) g start (o * 4 + 4) (now (costs .exit)) ⌝ }
-{
-    let top = th.first.0 as usize;
-    let mut i = 0;
-    while i < g {
-        close_second(t, g, o, i, th);
-        fill_slice(t, costs, g, other, start, top, o * 4 + i);
-        i += 1;
-    }
-}
-
-// The costs of all full lines with two turn ends, one first turn end after the other.
-fn fill_ends(t: &mut [u64], costs: &mut [u64], g: usize, other: bool, start: usize, th: Thread)
-    requires { ⌜
-        (length (now t) ≡ size) × (length (now costs) ≡ 4096) × (1 ≤ g) × (g ≤ 4) × (start < g) × ThreadFits g th
-        × Solved (First th g) second (now t)
-        ⌝ }
-    ensures { λ r. ⌜ Costs th (idOf other) g 2 start (now (costs .exit)) ⌝ }
-{
-    let mut o = 0;
-    while o < g {
-        fill_from(t, costs, g, other, start, o, th);
-        o += 1;
-    }
-}
-
-// The costs of all full lines of a thread with n turn ends.
-pub fn fill(
-    t: &mut [u64],
-    costs: &mut [u64],
-    g: usize,
-    n: usize,
-    other: bool,
-    start: usize,
-    th: Thread,
-)
-    requires { ⌜
-        (length (now t) ≡ size) × (length (now costs) ≡ 4096) × (1 ≤ g) × (g ≤ 4) × (n ≤ 2) × (start < g) × ThreadFits g th
-        ⌝ }
-    ensures { λ r. ⌜ Costs th (idOf other) g n start (now (costs .exit)) ⌝ }
-{
-    let top = th.first.0 as usize;
-    close_plain(t, g, th);
-    if n == 0 {
-        fill_all(t, costs, g, n, other, start, top);
-        return;
-    }
-    close_first(t, g, th);
-    if n == 1 {
-        fill_all(t, costs, g, n, other, start, top);
-        return;
-    }
-    fill_ends(t, costs, g, other, start, th);
 }

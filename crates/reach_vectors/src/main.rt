@@ -58,29 +58,10 @@ fn faulty() -> bool {
 
 // Model One, model Two at K=1, a model with G=1 and K=3, and one with a fault.
 fn document() -> Tally {
-    let once = [
-        202u8,
-        1,
-        3,
-        3,
-        6,
-        0,
-        0,
-        0,
-        1,
-        0,
-        1,
-        1,
-        32,
-        3,
-        1,
-        3,
-        16,
-        2,
-        0,
-    ];
+    let one = vectors::ONE;
+    let once = vectors::TWO_ONCE;
     let mut t = Tally::new();
-    t = t.counted(agrees(&[75, 2, 1, 1, 1, 1, 0, 1], &[39]));
+    t = t.counted(agrees(&one, &[39]));
     t = t.counted(agrees(&once, &[19, 6, 0]));
     t = t.counted(agrees(&[11, 1, 3, 0], &[63]));
     t.counted(faulty())

@@ -76,11 +76,10 @@ fn agrees(bytes: &[u8], answer: u8) -> bool {
 // The records of document 01: model One and Two, those of rows 1 to 6, the empty one.
 fn document() -> Tally {
     let mut t = Tally::new();
-    t = t.counted(agrees(&[75, 2, 1, 1, 1, 1, 0, 1], 0));
-    t = t.counted(agrees(
-        &[200, 3, 3, 6, 0, 0, 0, 1, 0, 1, 1, 32, 3, 1, 3, 16, 2, 0],
-        0,
-    ));
+    let one = vectors::ONE;
+    t = t.counted(agrees(&one, 0));
+    let two = vectors::TWO;
+    t = t.counted(agrees(&two, 0));
     t = t.counted(agrees(&[8, 0], 0));
     t = t.counted(agrees(&[], 1));
     t = t.counted(agrees(&[75, 2], 1));

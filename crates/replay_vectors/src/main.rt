@@ -13,31 +13,13 @@ fn agrees(bytes: &[u8], schedule: &[u8], answer: u8, last: u8, target: bool) -> 
     }
 }
 
-// Schedules of model Two, at K=2 and at K=1.
+// Schedules of model One, and of model Two at K=2 and at K=1.
 fn document() -> Tally {
-    let two = [200u8, 3, 3, 6, 0, 0, 0, 1, 0, 1, 1, 32, 3, 1, 3, 16, 2, 0];
-    let once = [
-        202u8,
-        1,
-        3,
-        3,
-        6,
-        0,
-        0,
-        0,
-        1,
-        0,
-        1,
-        1,
-        32,
-        3,
-        1,
-        3,
-        16,
-        2,
-        0,
-    ];
+    let one = vectors::ONE;
+    let two = vectors::TWO;
+    let once = vectors::TWO_ONCE;
     let mut t = Tally::new();
+    t = t.counted(agrees(&one, &[0, 0], 0, 1, true));
     t = t.counted(agrees(&two, &[0, 0, 0, 1, 1, 0, 2, 2], 0, 3, true));
     t = t.counted(agrees(&two, &[], 0, 0, false));
     t = t.counted(agrees(&two, &[0], 8, 0, false));

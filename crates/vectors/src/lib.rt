@@ -3,6 +3,13 @@ ghost use Prim.Native.Nat.{_≤_, _<_, _+_};
 ghost use lib.ListN.{length};
 use libc::STDOUT_FILENO;
 
+// The records of document 01's models: One, Two, and Two at K=1.
+pub const ONE: [u8; 8] = [75, 2, 1, 1, 1, 1, 0, 1];
+
+pub const TWO: [u8; 18] = [200, 3, 3, 6, 0, 0, 0, 1, 0, 1, 1, 32, 3, 1, 3, 16, 2, 0];
+
+pub const TWO_ONCE: [u8; 19] = [202, 1, 3, 3, 6, 0, 0, 0, 1, 0, 1, 1, 32, 3, 1, 3, 16, 2, 0];
+
 // How many answers were compared, and how many of them differ from what is stored.
 pub struct Tally {
     pub compared: u64,

@@ -4,13 +4,14 @@ use Prim.Native.Nat.{suc, _-_, _*_, _^_, _≤_}
 use borrow.Author.Needs.{needs}
 use Rattle.reach.specs.Cost.{idOf}
 use Rattle.reach.specs.Lanes.{costOf}
-use Rattle.reach.proofs.Filled.{Filled, full, filled-start, filled-next, filled-all}
+use Rattle.reach.proofs.Filled.{full}
+use Rattle.reach.proofs.Front.{Front, front-start, front-next, front-all}
 use Rattle.reach.proofs.costs.fill_all.Statement.{statement}
 use Rattle.reach.proofs.costs.fill_all.Tie as tie
 
 abbrev Inv-loop : tie.InvT-loop
 Inv-loop t costs₀ g n other start top count v₀ costs v =
-    (count ≡ g ^ (2 * suc n)) × (count ≤ 4096) × (v ≤ count) × Filled (costOf (idOf other) t g n start top) v costs₀ costs
+    (count ≡ g ^ (2 * suc n)) × (count ≤ 4096) × (v ≤ count) × Front (λ v x. x ≡ costOf (idOf other) t g n start top v) v costs₀ costs
 
 abbrev μ-loop : tie.MeasureT-loop
 μ-loop t costs₀ g n other start top count v₀ costs v = count - v
@@ -25,7 +26,7 @@ power-requires : tie.Need-power-requires Inv-loop μ-loop
 power-requires c κs = search needs
 
 loop-holds : tie.Need-loop-holds Inv-loop μ-loop
-loop-holds c = (full _ _ (c .power .ensures .0), search needs, search needs, filled-start _ _)
+loop-holds c = (full _ _ (c .power .ensures .0), search needs, search needs, front-start _ _)
 
 line-cost-requires : tie.Need-line-cost-requires Inv-loop μ-loop
 line-cost-requires c κs = search needs
@@ -45,13 +46,13 @@ loop-less c = search needs
 loop-again : tie.Need-loop-again Inv-loop μ-loop
 loop-again c =
     let loop = c .before .before .loop in
-    (search needs, search needs, search needs, filled-next (loop .inv .3) (search needs) (c .line-cost .ensures))
+    (search needs, search needs, search needs, front-next (loop .inv .3) (search needs) (c .line-cost .ensures))
 
 same-length : tie.Need-same-length Inv-loop μ-loop
 same-length c = search needs
 
 returns : tie.Need-returns Inv-loop μ-loop
-returns c = let loop = c .before .loop in filled-all (loop .inv .3) (loop .inv .0) (c .loop-test .left)
+returns c = let loop = c .before .loop in front-all (loop .inv .3) (loop .inv .0) (c .loop-test .left)
 
 pub fill-all-spec : {M : Type 1} → statement M
 fill-all-spec =

@@ -1,5 +1,6 @@
 -- `fill_slice` meets its contract. The invariant: the values below v are written, and those from v on are kept.
 use mathlib.Core.Bool.{cond}
+use mathlib.Core.Path.{_≡_}
 use Prim.Native.Nat.{_-_, _≤_}
 use native.Mathlib.Nat.{le-refl}
 use borrow.Author.Needs.{needs}
@@ -7,14 +8,15 @@ use lib.Dec.{eqb}
 use lib.ListN.{getD}
 use Rattle.reach.specs.Cost.{idOf}
 use Rattle.reach.specs.Lanes.{lineLane, costOf}
-use Rattle.reach.proofs.Filled.{Filled, filled-start, filled-next, filled-all}
+use Rattle.reach.proofs.Front.{Front, front-start, front-next, front-all}
 use Rattle.reach.proofs.costs.fill_slice.Statement.{statement}
 use Rattle.reach.proofs.costs.fill_slice.Tie as tie
 
 abbrev Inv-loop : tie.InvT-loop
 Inv-loop t costs₀ g other start top lane count v₀ costs v =
     (v ≤ count)
-    × Filled (λ v. cond (eqb (lineLane (idOf other) g 6 v 0) lane) (costOf (idOf other) t g 2 start top v) (getD costs₀ v 0)) v costs₀ costs
+    × Front (λ v x. x ≡ cond (eqb (lineLane (idOf other) g 6 v 0) lane) (costOf (idOf other) t g 2 start top v) (getD costs₀ v 0)) v
+    costs₀ costs
 
 abbrev μ-loop : tie.MeasureT-loop
 μ-loop t costs₀ g other start top lane count v₀ costs v = count - v
@@ -23,7 +25,7 @@ power-requires : tie.Need-power-requires Inv-loop μ-loop
 power-requires c κs = search needs
 
 loop-holds : tie.Need-loop-holds Inv-loop μ-loop
-loop-holds c = (search needs, filled-start _ _)
+loop-holds c = (search needs, front-start _ _)
 
 mul-slice-cost : tie.Need-mul-slice-cost Inv-loop μ-loop
 mul-slice-cost c = search needs
@@ -50,13 +52,13 @@ loop-again : tie.Need-loop-again Inv-loop μ-loop
 loop-again c =
     let loop = c .before .before .before .loop in
     let slice-cost = c .slice-cost in
-    (search needs, filled-next (loop .inv .1) (search needs) (rw (loop .inv .1 .above _ (le-refl _)) at (slice-cost .ensures)))
+    (search needs, front-next (loop .inv .1) (search needs) (rw (loop .inv .1 .above _ (le-refl _)) at (slice-cost .ensures)))
 
 same-length : tie.Need-same-length Inv-loop μ-loop
 same-length c = search needs
 
 returns : tie.Need-returns Inv-loop μ-loop
-returns c = let loop = c .before .loop in filled-all (loop .inv .1) (c .before .before .power .ensures .0) (c .loop-test .left)
+returns c = let loop = c .before .loop in front-all (loop .inv .1) (c .before .before .power .ensures .0) (c .loop-test .left)
 
 pub fill-slice-spec : {M : Type 1} → statement M
 fill-slice-spec =

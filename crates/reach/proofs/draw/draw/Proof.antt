@@ -49,7 +49,7 @@ loop-again c =
     (search needs, search needs, written-steps _ (c .before .loop-test .taken) (omega arith) (c .byte-of .ensures) written)
 
 same-length : tie.Need-same-length Inv-loop μ-loop
-same-length c = c .before .loop .inv .2 .size
+same-length c = c .before .loop .inv .2 .front .size
 
 returns : tie.Need-returns Inv-loop μ-loop
 returns c =
