@@ -5,6 +5,7 @@ pub mod Inside
 pub mod Positions
 pub mod Ranges
 pub mod Steps
+pub mod Stores
 pub mod Table
 pub mod Tests
 pub mod Turns

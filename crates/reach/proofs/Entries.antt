@@ -16,7 +16,7 @@ use Rattle.reach.specs.Ends.{turnOf, endsOf}
 use Rattle.reach.specs.Lanes.{placeAt, endLane, LaneTo}
 
 -- The cell of a stretch, by the lane.
-place-at : (ends : ℕ → TurnEnd) (k p q g γ d l : ℕ) → q ≡ p + k → k ≤ 2 → LaneTo ends q l
+pub place-at : (ends : ℕ → TurnEnd) (k p q g γ d l : ℕ) → q ≡ p + k → k ≤ 2 → LaneTo ends q l
     → placeOf ends k (control p g) γ d ≡ placeAt k g γ d l
 place-at ends zero p q g γ d l e two h = refl
 place-at ends (suc zero) p q g γ d l e two h = let s : q ≡ suc p = omega arith in rw (rw s at h)

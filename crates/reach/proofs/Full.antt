@@ -37,6 +37,11 @@ last-digit g (suc n) v x p h =
     let b : 0 < g ^ suc n = le-trans (omega (arith, pow-zero g)) (pow-le-pow-right p {i = 0} {j = suc n} (omega arith)) in
     last-digit g n (v % g ^ suc n) (v / g ^ suc n) p (mod-lt v b) ∙ rw pow-succ' (mod-mod-of-dvd g v (dvd-mul-right g (g ^ n)))
 
+-- The same for any number of digits but 0.
+pub last-digits : (g n v x : ℕ) → 0 < g → 0 < n → v < g ^ n → lastOf x (digits g n v) ≡ v % g
+last-digits g zero v x p l h = absurd (omega arith)
+last-digits g (suc n) v x p l h = last-digit g n v x p h
+
 -- The line at a place that is q places after the lines of up to m states.
 line-of : (g k m q p : ℕ) → m < 2 * k → q < g ^ suc m → powers g m + q ≡ p → lineAt g k p ≡ digits g (suc m) q
 line-of g k m q p h b e =
@@ -109,8 +114,7 @@ padding-steps {g} {n} {q} {i} {v} p h = record {
 
 pub padding-ends : {g q v : ℕ} (k n : ℕ) → 0 < g → 0 < n → q < g ^ n → Padding g n q (2 * k) v
     → v ≡ value g (padded k (digits g n q))
-padding-ends k zero p l b h = absurd (omega arith)
-padding-ends {g} {q} k (suc n) p l b h = rw (length-digits, last-digit g n q 0 p b) (h .same)
+padding-ends {g} {q} k n p l b h = rw (length-digits, last-digits g n q 0 p l b) (h .same)
 
 pub padding-small : {g n q i v : ℕ} → g ≤ 4 → i ≤ 6 → Padding g n q i v → v < 4096
 padding-small h l d = omega (arith, d .low, power-small h l)

@@ -2,20 +2,19 @@
 -- a run is both views, and a cost of at most 4,096 says that there is a view.
 use mathlib.Core.List.{List, [], _∷_, _++_}
 use mathlib.Core.Logic.{_↔_, Iff·trans}
-use mathlib.Core.Path.{_≡_, refl, ap, subst, _∙_}
+use mathlib.Core.Path.{_≡_, refl, subst}
 use Prim.Native.Nat.{ℕ, zero, suc, _-_, _*_, _^_, _≤_, _<_}
 use native.Mathlib.Omega.{arith}
 use lib.ListN.{length, getD, replicate, length-append, length-replicate}
 use Rattle.model.specs.declared.Model.{Model}
-use Rattle.model.specs.declared.Thread.{Thread}
 use Rattle.model.specs.Lines.{bits, States, Line, lastOf, value, digits, lineAt}
 use Rattle.model.specs.Runs.{Marked}
 use Rattle.model.specs.Walk.{ThreadId, A, B, threadOf}
-use Rattle.model.proofs.Positions.{value-below, digits-value, line-at}
+use Rattle.model.proofs.Positions.{value-below, length-digits, digits-value, line-at}
 use Rattle.model.proofs.Turns.{marked-padded}
 use Rattle.reach.specs.Answer.{LineTable}
 use Rattle.reach.specs.Bits.{padded, fullAt, Drawn}
-use Rattle.reach.specs.Cost.{LeastAlong, ViewCost, Costs}
+use Rattle.reach.specs.Cost.{LeastAlong, ViewCost, Costs, BothCosts}
 use Rattle.reach.proofs.Along.{line-view}
 use Rattle.reach.proofs.Views.{marked-views}
 
@@ -66,39 +65,49 @@ full-states {G} {k} {line} l =
     states-append G line (replicate (2 * k - length line) (lastOf 0 line)) (l .states)
     (repeated G (lastOf 0 line) (2 * k - length line) (last-low G 0 line (l .some) (l .states)))
 
+-- A list of costs has, at the value of each full line, the least steps of the thread's views of that line.
+pub line-cost : (m : Model) (i : ThreadId) (costs : List ℕ) → 1 ≤ m .k
+    → Costs (threadOf i m) i (m .g) (m .k - 1) (m .start .0) costs → (v : ℕ) → v < m .g ^ (2 * m .k)
+    → ViewCost m i (digits (m .g) (2 * m .k) v) (getD costs v 0)
+line-cost m i costs k c v h =
+    let n : ℕ = m .k - 1 in
+    let e : 2 * suc n ≡ 2 * m .k = omega arith in
+    let low : v < m .g ^ (2 * suc n) = rw e h in
+    rw e at (view-cost m i n (digits (m .g) (2 * suc n) v) (length-digits (m .g) (2 * suc n) v) (c v low))
+
+-- The same at a line of 2K states.
+pub full-cost : (m : Model) (i : ThreadId) (costs : List ℕ) → 1 ≤ m .k
+    → Costs (threadOf i m) i (m .g) (m .k - 1) (m .start .0) costs
+    → (line : List ℕ) → length line ≡ 2 * m .k → States (m .g) line
+    → (value (m .g) line < m .g ^ (2 * m .k)) × ViewCost m i line (getD costs (value (m .g) line) 0)
+full-cost m i costs k c line size states =
+    let v : ℕ = value (m .g) line in
+    let low : v < m .g ^ (2 * m .k) = subst (λ n. v < m .g ^ n) size (value-below (m .g) line states) in
+    let same : digits (m .g) (2 * m .k) v ≡ line =
+    subst (λ n. digits (m .g) n v ≡ line) size (digits-value (m .g) line states) in
+    (low, subst (λ l. ViewCost m i l (getD costs v 0)) same (line-cost m i costs k c v low))
+
 -- Which lines of the table are marked, from the costs of both threads.
-pub drawn : (m : Model) (n : ℕ) (a b : List ℕ) → m .k ≡ suc n
-    → Costs (m .a) A (m .g) n (m .start .0) a → Costs (m .b) B (m .g) n (m .start .0) b
-    → (p : ℕ) → p < bits (m .g) (m .k)
+drawn : (m : Model) (a b : List ℕ) → 1 ≤ m .k → BothCosts m a b → (p : ℕ) → p < bits (m .g) (m .k)
     → Marked m (lineAt (m .g) (m .k) p) ↔ ((getD a (fullAt (m .g) (m .k) p) 0 ≤ 4096) × (getD b (fullAt (m .g) (m .k) p) 0 ≤ 4096))
-drawn m n a b k ca cb p h =
+drawn m a b k c p h =
     let l = line-at (m .g) (m .k) p h in
     let line : List ℕ = lineAt (m .g) (m .k) p in
     let full : List ℕ = padded (m .k) line in
-    let states = full-states l in
-    let size : length full ≡ 2 * suc n = full-length l ∙ ap (λ i. 2 * i) k in
-    let same : digits (m .g) (2 * suc n) (value (m .g) full) ≡ full =
-    subst (λ i. digits (m .g) i (value (m .g) full) ≡ full) size (digits-value (m .g) full states) in
-    let low : value (m .g) full < m .g ^ (2 * suc n) = subst (λ i. value (m .g) full < m .g ^ i) size (value-below (m .g) full states) in
-    let one = view-cost m A n full size (at A (m .a) same (ca (value (m .g) full) low)) in
-    let other = view-cost m B n full size (at B (m .b) same (cb (value (m .g) full) low)) in
+    let one = full-cost m A a k (c .0) full (full-length l) (full-states l) in
+    let other = full-cost m B b k (c .1) full (full-length l) (full-states l) in
     let padding : Marked m line ↔ Marked m full =
     rw (last-any (m .start .0) 0 line (l .some)) at (marked-padded {m = m} (2 * m .k - length line) line) in
-    Iff·trans padding (marked-costs m full one other)
-  where
-    at : (i : ThreadId) (t : Thread) {x y : List ℕ} {cost : ℕ} → x ≡ y
-        → LeastAlong t i n (m .start .0) x cost → LeastAlong t i n (m .start .0) y cost
-    at i t {cost = cost} e p = subst (λ x. LeastAlong t i n (m .start .0) x cost) e p
+    Iff·trans padding (marked-costs m full (one .1) (other .1))
 
 -- A store drawn from the costs of both threads holds the model's line table.
-pub line-table : (m : Model) (a b : List ℕ) {old new : List ℕ} → 1 ≤ m .k
-    → Costs (m .a) A (m .g) (m .k - 1) (m .start .0) a → Costs (m .b) B (m .g) (m .k - 1) (m .start .0) b
+pub line-table : (m : Model) (a b : List ℕ) {old new : List ℕ} → 1 ≤ m .k → BothCosts m a b
     → Drawn (m .g) (m .k) (λ p. (getD a (fullAt (m .g) (m .k) p) 0 ≤ 4096) × (getD b (fullAt (m .g) (m .k) p) 0 ≤ 4096)) old new
     → LineTable m old new
-line-table m a b k ca cb d =
+line-table m a b k c d =
     record {
       size = d .size;
-      marks = λ p h. let e = drawn m (m .k - 1) a b (omega arith) ca cb p h in Iff·trans (d .marks p h) (e .1, e .0);
+      marks = λ p h. let e = drawn m a b k c p h in Iff·trans (d .marks p h) (e .1, e .0);
       spare = d .spare;
       beyond = d .beyond;
     }

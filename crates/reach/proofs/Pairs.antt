@@ -87,7 +87,7 @@ module _ (ends : ℕ → TurnEnd) (tab : List ℕ) (c : Control) (γ : ℕ) (d :
   states-made j zero old i b r = r
   states-made j (suc k) old i b r = step j k (overStates ends tab c γ d j k old) i b (states-made j k old i (omega arith) r)
 
-  turns-made : P (entry ends tab c γ (stay d)) → (k : ℕ) → k ≤ suc n → P (overTurns ends tab c γ d G k)
+  pub turns-made : P (entry ends tab c γ (stay d)) → (k : ℕ) → k ≤ suc n → P (overTurns ends tab c γ d G k)
   unfolding overTurns
   turns-made r zero b = r
   turns-made r (suc k) b = states-made k G (overTurns ends tab c γ d G k) (omega arith) (le-refl G) (turns-made r k (omega arith))
@@ -121,7 +121,7 @@ module _ (ends : ℕ → TurnEnd) (tab : List ℕ) (c : Control) (γ : ℕ) (d :
 module _ {t : Thread} {G n : ℕ} {ends : ℕ → TurnEnd} {tab : List ℕ} (fits : ThreadFits G t) (inside : Inside G n ends)
     (sums : Summed t G n ends tab) (turnOf : ℕ → ℕ) where
   -- No rule takes the floor.
-  idle : (c d : Control) (s : Step) (x : Right) → Moves t turnOf c 16 s x d → ⊥
+  pub idle : (c d : Control) (s : Step) (x : Right) → Moves t turnOf c 16 s x d → ⊥
   idle c d s x m =
       let a = applies-iff t (s .rule) (c .shared) 16 .0 (m .rule) in
       let r = fits .rules (s .rule) (a .listed) in

@@ -3,12 +3,12 @@
 use mathlib.Core.Bool.{Bool, true, false}
 use mathlib.Core.List.{List, [], _∷_}
 use mathlib.Core.Path.{_≡_}
-use Prim.Native.Nat.{ℕ, zero, suc, _*_, _^_, _≤_, _<_}
+use Prim.Native.Nat.{ℕ, zero, suc, _-_, _*_, _^_, _≤_, _<_}
 use lib.ListN.{length, getD}
 use Rattle.model.specs.declared.Thread.{Thread}
 use Rattle.model.specs.Lines.{digits}
 use Rattle.model.specs.declared.Model.{Model}
-use Rattle.model.specs.Walk.{ThreadId, A, B, threadOf}
+use Rattle.model.specs.Walk.{ThreadId, A, B, threadOf, Step}
 use Rattle.reach.specs.View.{View}
 use Rattle.summary.specs.Control.{Control, TurnEnd, Moves, Switches, entry}
 use Rattle.summary.specs.Edges.{bestOf}
@@ -58,15 +58,23 @@ abbrev pub idOf : Bool → ThreadId
 idOf false = A
 idOf true = B
 
--- A cost is the capped least number of steps of a thread along a full line with n turn ends, where the run starts in g.
+-- The steps of a thread along a full line with n turn ends, where the run starts in g.
+abbrev pub RunAlong : Thread → ThreadId → ℕ → ℕ → List ℕ → List Step → Type 0
+RunAlong t i n g line ss =
+    Path (Moves t (turnOf i)) (Switches (endsOf i line) n) (control 0 (firstState i g line)) (t .first .0 ∷ []) ss
+    (control n (lastState i n line))
+
+-- A cost is the capped least number of such steps.
 abbrev pub LeastAlong : Thread → ThreadId → ℕ → ℕ → List ℕ → ℕ → Type 0
-LeastAlong t i n g line cost =
-    Least
-    (λ ss. Path (Moves t (turnOf i)) (Switches (endsOf i line) n) (control 0 (firstState i g line)) (t .first .0 ∷ []) ss
-    (control n (lastState i n line))) cost
+LeastAlong t i n g line cost = Least (RunAlong t i n g line) cost
 
 -- A list of costs for a thread: at the value of each full line, the capped least number of steps of the thread along it.
 -- G states, n turn ends of the thread, so 2n + 2 states in a line; g is the state in which the run starts.
 abbrev pub Costs : Thread → ThreadId → ℕ → ℕ → ℕ → List ℕ → Type 0
 Costs t i G n g costs =
     (v : ℕ) → v < G ^ (2 * suc n) → LeastAlong t i n g (digits G (2 * suc n) v) (getD costs v 0)
+
+-- The lists of costs of both threads of a model: for K rounds each thread has K − 1 turn ends.
+abbrev pub BothCosts : Model → List ℕ → List ℕ → Type 0
+BothCosts m a b =
+    Costs (m .a) A (m .g) (m .k - 1) (m .start .0) a × Costs (m .b) B (m .g) (m .k - 1) (m .start .0) b

@@ -1,9 +1,10 @@
-// The costs of the full lines for one thread.
+// The costs of the full lines for the threads of a model.
 use crate::parts::first_state;
 use crate::parts::lane_of;
 use crate::parts::power;
 use crate::parts::state_at;
 use crate::parts::turn_of;
+use model::Model;
 use model::Thread;
 use summary::cells::FIRST;
 use summary::cells::SECOND;
@@ -18,12 +19,25 @@ ghost use mathlib.Core.Path.{_≡_};
 ghost use Prim.Native.Nat.{ℕ, suc, _+_, _*_, _^_, _≤_, _<_};
 ghost use lib.Dec.{eqb};
 ghost use lib.ListN.{length, getD};
-ghost use Rattle.model.specs.Fits.{ThreadFits};
+ghost use Rattle.model.specs.Fits.{Fits, ThreadFits};
 ghost use Rattle.summary.specs.Cells.{size, second, First, Solved};
 ghost use Rattle.summary.specs.Control.{TurnEnd};
 ghost use Rattle.summary.specs.Edges.{bestOf, cell};
-ghost use Rattle.reach.specs.Cost.{control, overStates, pairCost, idOf, Costs};
+ghost use Rattle.reach.specs.Cost.{control, overStates, pairCost, idOf, Costs, BothCosts};
 ghost use Rattle.reach.specs.Lanes.{placeAt, endLane, LaneTo, lineLane, costOf, CostsTo};
+
+// The costs of all full lines of both threads of a model in range.
+pub fn both(m: Model, a: &mut [u64], b: &mut [u64])
+    requires { ⌜ Fits m ⌝ ∗ ⌜ (length (now a) ≡ 4096) × (length (now b) ≡ 4096) ⌝ }
+    ensures { λ _. ⌜ BothCosts m (now (a .exit)) (now (b .exit)) ⌝ }
+{
+    let g = m.g as usize;
+    let n = m.k as usize - 1;
+    let start = m.start.0 as usize;
+    let mut table = [0u64; 17952];
+    fill(&mut table, a, g, n, false, start, m.a);
+    fill(&mut table, b, g, n, true, start, m.b);
+}
 
 // The costs of all full lines of a thread with n turn ends.
 pub fn fill(
@@ -247,7 +261,7 @@ fn over_states(
 }
 
 // The lesser of a count and of two stretches one after the other.
-fn joined(x: u64, y: u64, old: u64) -> u64
+pub fn joined(x: u64, y: u64, old: u64) -> u64
     ensures { λ r. ⌜ r ≡ bestOf 0 x y old ⌝ }
 {
     if 4096 < x {
@@ -257,7 +271,7 @@ fn joined(x: u64, y: u64, old: u64) -> u64
 }
 
 // The entry of a stretch with `gap` turn ends inside; `lane` is that of the last of them.
-fn entry_at(t: &[u64], gap: usize, s: usize, top: usize, d: usize, lane: usize) -> u64
+pub fn entry_at(t: &[u64], gap: usize, s: usize, top: usize, d: usize, lane: usize) -> u64
     requires { ⌜ (length (now t) ≡ size) × (gap ≤ 2) × (s < 4) × (top < 17) × (d < 8) × (lane < 16) ⌝ }
     ensures { λ r. ⌜ r ≡ cell (now (t .entry)) (placeAt gap s top d lane) ⌝ }
 {
@@ -271,7 +285,7 @@ fn entry_at(t: &[u64], gap: usize, s: usize, top: usize, d: usize, lane: usize) 
 }
 
 // The lane of the turn end before turn j, of the two that there are at most.
-fn lane_to(j: usize, a: usize, b: usize) -> usize
+pub fn lane_to(j: usize, a: usize, b: usize) -> usize
     requires { ⌜ (j ≤ 2) × (a < 16) × (b < 16) ⌝ }
     ensures { λ r. ⌜
         ((ends : ℕ → TurnEnd) → a ≡ endLane ends 0 → b ≡ endLane ends 1 → LaneTo ends j r) × (r < 16)

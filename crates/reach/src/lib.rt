@@ -3,12 +3,12 @@ ghost use mathlib.Core.Path.{_≡_};
 ghost use Prim.Native.Nat.{_≤_};
 ghost use lib.ListN.{length};
 ghost use Rattle.model.specs.Fits.{Fits};
-ghost use Rattle.reach.specs.Answer.{outcomeOf, LineTable, Leaves};
+ghost use Rattle.reach.specs.Answer.{lineRefusal, outcomeOf, LineTable, Leaves};
 ghost use Rattle.reach.specs.Bits.{bytesFor};
 
-mod costs;
-mod draw;
-mod parts;
+pub mod costs;
+pub mod draw;
+pub mod parts;
 
 use model::Model;
 
@@ -23,16 +23,24 @@ pub fn lines(m: Model, store: &mut [u8]) -> Outcome
     ensures answer { λ r. ⌜ r ≡ outcomeOf m (length (now (store .entry))) ⌝ }
     ensures leaves { λ r. ⌜ Leaves m r (now (store .entry)) (now (store .exit)) ⌝ }
 {
-    let found = model::fault(m);
-    if found != 0 {
-        return Outcome::Refused(found);
-    }
-    let bytes = (model::line_bits(m.g, m.k) as usize + 7) / 8;
-    if store.len() < bytes {
-        return Outcome::Refused(7);
+    let number = refusal(m, store.len());
+    if number != 0 {
+        return Outcome::Refused(number);
     }
     mark(m, store);
     Outcome::Done
+}
+
+// The refusal that a model and a line store of so many bytes get; 0 for none.
+pub fn refusal(m: Model, size: usize) -> u8
+    ensures { λ r. ⌜ r ≡ lineRefusal m size ⌝ }
+{
+    let found = model::fault(m);
+    if found != 0 {
+        return found;
+    }
+    let bytes = (model::line_bits(m.g, m.k) as usize + 7) / 8;
+    if size < bytes { 7 } else { 0 }
 }
 
 // The line table of a model in range, into a store that has room for it.
@@ -40,13 +48,8 @@ fn mark(m: Model, store: &mut [u8])
     requires { ⌜ Fits m ⌝ ∗ ⌜ bytesFor (m .g) (m .k) ≤ length (now store) ⌝ }
     ensures { λ _. ⌜ LineTable m (now (store .entry)) (now (store .exit)) ⌝ }
 {
-    let g = m.g as usize;
-    let n = m.k as usize - 1;
-    let start = m.start.0 as usize;
-    let mut table = [0u64; 17952];
     let mut a = [0u64; 4096];
     let mut b = [0u64; 4096];
-    costs::fill(&mut table, &mut a, g, n, false, start, m.a);
-    costs::fill(&mut table, &mut b, g, n, true, start, m.b);
+    costs::both(m, &mut a, &mut b);
     draw::draw(store, m.g, m.k, &a, &b);
 }

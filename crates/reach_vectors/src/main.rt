@@ -1,4 +1,4 @@
-// Fills the line tables of document 01's models and of a file of random ones, and compares.
+// Fills the line tables of document 01's models, and compares. Random models are compared where they are judged.
 use model::Model;
 use reach::Outcome;
 use vectors::Tally;
@@ -67,36 +67,6 @@ fn document() -> Tally {
     t.counted(faulty())
 }
 
-// One case of the file after another: a record with its length, three bytes for its verdict, and the line table with its
-// length.
-fn corpus(s: &[u8]) -> Tally {
-    let mut t = Tally::new();
-    let mut at = 0;
-    while at < s.len() {
-        let model = vectors::part_at(s, at);
-        let start = model.start;
-        let end = model.end;
-        let table = vectors::part_at(s, end + 3);
-        let from = table.start;
-        let to = table.end;
-        t = t.counted(agrees(&s[start..end], &s[from..to]));
-        if to <= at {
-            return t;
-        }
-        at = to;
-    }
-    t
-}
-
-// The cases of a file, which the store has room for.
-fn file(name: &[u8], store: &mut [u8]) {
-    let n = vectors::load(name, store);
-    corpus(&store[0..n]).report(name);
-}
-
 fn main() {
     document().report(b"document 01");
-    let mut store = [0u8; 370000];
-    file(b"verdicts-1.bin", &mut store);
-    file(b"verdicts-2.bin", &mut store);
 }

@@ -2,21 +2,16 @@
 use mathlib.Core.List.{List, [], _∷_, _++_, append-assoc, append-nil}
 use mathlib.Core.Path.{_≡_, refl}
 use Prim.Native.Nat.{ℕ, zero, suc, _+_, _≤_, _<_}
-use native.Mathlib.Nat.{add-zero, add-suc, suc-add}
 use native.Mathlib.Numerals.{add-one}
 use native.Mathlib.Omega.{arith}
 use lib.ListN.{length, take, drop, getD, set, length-append}
-use lib.Seq.{sets, length-take-le, drop-cons, set-at, take-suc, append-snoc}
+use lib.Seq.{length-take-le, drop-cons, set-at, take-suc, append-snoc}
 use borrow.Author.Tests.{eq-eqb, ne-eqb}
 use Rattle.model.specs.declared.Rule.{Rule}
 use Rattle.model.specs.Rules.{zeroRule}
+use Rattle.model.proofs.Stores.{sets-append}
 use Rattle.record.specs.Put.{Put}
 use Rattle.record.specs.Writer.{fieldOf, ruleOf, ruleListOf}
-
--- A run of stores goes on where the one before it ended.
-pub sets-append : (l : List ℕ) (i : ℕ) (a b : List ℕ) → sets (sets l i a) (i + length a) b ≡ sets l i (a ++ b)
-sets-append l i [] b = rw add-zero
-sets-append l i (x ∷ a) b = rw (add-suc, ← suc-add) (sets-append _ _ a b)
 
 -- Nothing put.
 pub nothing : (l : List ℕ) (i : ℕ) → Put l l i i []

@@ -4,7 +4,7 @@ use mathlib.Core.Bool.{Bool, true, false, cond}
 use mathlib.Core.List.{List, [], _∷_}
 use mathlib.Core.Logic.{_↔_}
 use mathlib.Core.Path.{_≡_, refl, sym, ap}
-use Prim.Native.Nat.{ℕ, zero, suc, _*_, _%_, _≤_}
+use Prim.Native.Nat.{ℕ, zero, suc, _%_, _≤_}
 use native.Mathlib.Omega.{arith}
 use lib.Dec.{T, eqb}
 use lib.ListN.{length}
@@ -13,6 +13,7 @@ use Rattle.model.specs.declared.Shared.{Shared}
 use Rattle.model.specs.Runs.{Leads}
 use Rattle.model.specs.Valid.{Valid, faultOf}
 use Rattle.model.specs.Walk.{Step, bytesOf, Config, Walked, refused, arrived, startOf, walk}
+use Rattle.model.proofs.Stores.{length-bytes}
 use Rattle.model.proofs.Tests.{tests, passed}
 use Rattle.replay.specs.declared.Replayed.{Replayed}
 use Rattle.replay.specs.declared.Replayed.the-variants.{Accepted, Refused}
@@ -23,11 +24,6 @@ pub steps-bytes : (ss : List Step) → stepsOf (bytesOf ss) ≡ ss
 unfolding stepsOf
 steps-bytes [] = refl
 steps-bytes (s ∷ ss) = ap (λ l. s ∷ l) (steps-bytes ss)
-
--- A schedule has two bytes a step.
-pub length-bytes : (ss : List Step) → length (bytesOf ss) ≡ 2 * length ss
-length-bytes [] = refl
-length-bytes (s ∷ ss) = omega (arith, length-bytes ss)
 
 -- Bytes of even length are the bytes of their steps.
 pub bytes-steps : (bs : List ℕ) → length bs % 2 ≡ 0 → bytesOf (stepsOf bs) ≡ bs

@@ -21,7 +21,7 @@ abbrev pub stepsFrom : List ℕ → ℕ → List Step
 stepsFrom l i = stepsOf (drop (2 * i) l)
 
 -- Where the step at place i is there, the others follow it ..
-first-step : (l : List ℕ) (i : ℕ) → i < length l / 2 → stepsFrom l i ≡ stepAt l i ∷ stepsFrom l (i + 1)
+pub first-step : (l : List ℕ) (i : ℕ) → i < length l / 2 → stepsFrom l i ≡ stepAt l i ∷ stepsFrom l (i + 1)
 unfolding stepsOf
 first-step l i h =
     let p : 2 * i < length l = omega arith in
@@ -30,7 +30,7 @@ first-step l i h =
     rw (drop-cons l (2 * i) 0 p, drop-cons l (suc (2 * i)) 0 q, e, add-one)
 
 -- .. and past the last there is none.
-short : (l : List ℕ) → length l ≤ 1 → stepsOf l ≡ []
+pub short : (l : List ℕ) → length l ≤ 1 → stepsOf l ≡ []
 unfolding stepsOf
 short [] h = refl
 short (x ∷ []) h = refl

@@ -1,14 +1,15 @@
 -- At an entry that some stretch meets exactly, its first move is tight: the entries of its parts add up to the entry, since
 -- neither part can be shorter than its entry and the table is closed.
-use mathlib.Core.List.{List}
-use mathlib.Core.Path.{_≡_}
+use mathlib.Core.List.{List, [], _∷_, _++_, append-nil}
+use mathlib.Core.Path.{_≡_, refl, ap}
 use Prim.Native.Nat.{ℕ, _+_}
 use native.Mathlib.Omega.{arith}
-use lib.ListN.{length}
+use lib.ListN.{length, length-append}
 use Rattle.model.specs.declared.Right.{Right}
 use Rattle.model.specs.declared.Right.the-variants.{Remove, Swap, Push}
 use Rattle.model.specs.declared.Symbol.{Symbol}
-use Rattle.summary.specs.Stretch.{End, pop, stay, Stretch}
+use Rattle.summary.specs.Stretch.{End, pop, stay, endOf, Stretch}
+use Rattle.summary.specs.Table.{Exact}
 use Rattle.summary.proofs.Tables.{Ranged, Closed, bounded}
 
 module _ {C S : Type 0} (Move : C → ℕ → S → Right → C → Type 0) (Switch : C → C → Type 0) (T : C → ℕ → End C → ℕ) where
@@ -52,3 +53,37 @@ module _ {C S : Type 0} (Move : C → ℕ → S → Right → C → Type 0) (Swi
       let h = bounded _ _ _ _ R K (R .switches p s) q r in
       let z : T c γ d ≡ T c₁ γ d = omega (arith, h .most, K .change γ d p q (h .place) s (h .reached) .most) in
       change s z
+
+  -- Exact entries are closed: what is made of stretches that exist is one that exists, and its entry is no more.
+  pub exact-closed : {Ctl : C → Type 0} {Sym : ℕ → Type 0} → Ranged Move Switch Ctl Sym
+      → ((c : C) (γ : ℕ) (d : End C) → Ctl c → Sym γ → Ctl (endOf d) → Exact Move Switch c γ d (T c γ d))
+      → Closed Move Switch Ctl Sym T
+  exact-closed R E =
+      record {
+        here = λ c γ p q. let l = E c γ (stay c) p q p .least {ss = []} {rest = []} Stretch.here in
+            record { reached = l .0; most = omega (arith, l .1) };
+        remove = λ {c} {c₁} {γ} {s} p q m.
+            let l = E c γ (pop c₁) p q (R .moves p m .0) .least {ss = s ∷ []} {rest = []} (Stretch.remove m) in
+            record { reached = l .0; most = omega (arith, l .1) };
+        swap = λ {c} {c₁} {γ} {s} {a} d p q o m h.
+            let i = R .moves p m in
+            let u = E c₁ (a .0) d (i .0) (i .1) o .some h in
+            let l = E c γ d p q o .least {rest = []} (Stretch.swap m (u .1 [])) in
+            record { reached = l .0; most = omega (arith, l .0, l .1, u .2, ap length (append-nil (u .0))) };
+        both = λ {c} {c₁} {γ} {s} {a} {b} r d p q y o m h k.
+            let i = R .moves p m in
+            let u = E c₁ (a .0) (pop r) (i .0) (i .1 .0) y .some h in
+            let v = E r (b .0) d y (i .1 .1) o .some k in
+            let l = E c γ d p q o .least {rest = []} (Stretch.both m (u .1 (v .0 ++ [])) (v .1 [])) in
+            let e : length (u .0 ++ (v .0 ++ [])) ≡ length (u .0) + length (v .0) = simp (length-append, append-nil) refl in
+            record { reached = l .0; most = omega (arith, l .0, l .1, u .2, v .2, e) };
+        above = λ {c} {c₁} {γ} {s} {a} {b} r p q y m h.
+            let i = R .moves p m in
+            let u = E c₁ (a .0) (stay r) (i .0) (i .1 .0) y .some h in
+            let l = E c γ (stay r) p q y .least {rest = []} (Stretch.above m (u .1 [])) in
+            record { reached = l .0; most = omega (arith, l .0, l .1, u .2, ap length (append-nil (u .0))) };
+        change = λ {c} {c₁} γ d p q o s h.
+            let u = E c₁ γ d (R .switches p s) q o .some h in
+            let l = E c γ d p q o .least {rest = []} (Stretch.change s (u .1 [])) in
+            record { reached = l .0; most = omega (arith, l .0, l .1, u .2, ap length (append-nil (u .0))) };
+      }

@@ -13,13 +13,14 @@ use Rattle.model.specs.declared.Symbol.{Symbol}
 use Rattle.model.specs.declared.Thread.{Thread}
 use Rattle.model.specs.Walk.{Step}
 use Rattle.model.proofs.Inside.{applies-iff}
-use Rattle.model.specs.Fits.{RightFits, ThreadFits}
+use Rattle.model.specs.Fits.{ThreadFits}
 use Rattle.summary.specs.Cells.{plain, laneOf, first, second, rest, blank, plainBy}
 use Rattle.summary.specs.Cells.{laneBy, crossBy, LaneRule, CrossRule, FirstEnds, SecondEnds, Rules, Plain}
 use Rattle.summary.specs.Control.{Control, TurnEnd, Moves, Switches, dest, entry, InTable, Inside}
 use Rattle.summary.specs.Edges.{Edge, cell, Holds}
 use Rattle.summary.specs.Stretch.{End, pop, stay, endOf}
-use Rattle.summary.proofs.Tables.{AtMost, Symbols, Ranged, Closed}
+use Rattle.summary.proofs.Ranging.{Sym}
+use Rattle.summary.proofs.Tables.{AtMost, Closed}
 use Rattle.summary.proofs.Joins.{blank-here, dest-low, RuleReady, at, remove-at, swap-at, above-at, both-at, changed}
 
 -- The edges that hold in a table, by the number of turn ends of the line.
@@ -34,12 +35,8 @@ pub record Ready (t : Thread) (G n : ℕ) (ends : ℕ → TurnEnd) (tab : List �
 
 module _ {t : Thread} {G n : ℕ} (turnOf : ℕ → ℕ) {ends : ℕ → TurnEnd} {tab : List ℕ} (fits : ThreadFits G t) (four : G ≤ 4) (two : n ≤ 2)
     (inside : Inside G n ends) (R : Ready t G n ends tab) where
-  -- Controls and symbols that the table has places for.
-  abbrev pub Ctl : Control → Type 0
+  abbrev Ctl : Control → Type 0
   Ctl c = InTable G n c
-
-  abbrev pub Sym : ℕ → Type 0
-  Sym γ = γ ≤ 16
 
   -- The edges of the rule of a move.
   ready : {c d : Control} {γ : ℕ} {s : Step} {x : Right} → Moves t turnOf c γ s x d
@@ -79,24 +76,6 @@ module _ {t : Thread} {G n : ℕ} (turnOf : ℕ → ℕ) {ends : ℕ → TurnEnd
   at-rest : cell tab rest ≡ 0
   unfolding blank
   at-rest = let h = R .low 4 (omega arith) in omega arith
-
-  -- The table has a place for each move and turn end.
-  pub ranged : Ranged (Moves t turnOf) (Switches ends n) Ctl Sym
-  ranged =
-      record {
-        moves = λ {c} {c₁} {γ} {s} {x} p m. moves p m;
-        switches = λ {c} {c₁} p s. (omega (arith, s .more, s .passed), rw (s .enter) (inside (c .passed) (s .more) .1));
-      }
-    where
-      low : (x : Right) → RightFits x → Symbols Sym x
-      low Remove f = tt
-      low (Swap a) f = omega arith
-      low (Push a b) f = (omega arith, omega arith)
-
-      moves : {c c₁ : Control} {γ : ℕ} {s : Step} {x : Right} → Ctl c → Moves t turnOf c γ s x c₁ → Ctl c₁ × Symbols Sym x
-      moves {c} {c₁} {γ} {s} {x} p m =
-          let r = fits .rules (s .rule) (applies-iff t (s .rule) (c .shared) γ .0 (m .rule) .listed) in
-          ((omega (arith, m .passed), rw (m .shared) (r .next)), low x (rw (m .right) at (r .symbols)))
 
   -- The table is closed.
   pub closed : Closed (Moves t turnOf) (Switches ends n) Ctl Sym (entry ends tab)

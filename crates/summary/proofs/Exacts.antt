@@ -16,8 +16,9 @@ use Rattle.summary.specs.Control.{Control, TurnEnd, Moves, Switches, des
 use Rattle.summary.specs.Edges.{cell, From}
 use Rattle.summary.specs.Stretch.{End, endOf, Stretch}
 use Rattle.summary.specs.Table.{Uses}
-use Rattle.summary.proofs.Complete.{Ready, ranged, closed}
+use Rattle.summary.proofs.Complete.{Ready, closed}
 use Rattle.summary.proofs.Joins.{dest-low}
+use Rattle.summary.proofs.Ranging.{ranged}
 use Rattle.summary.proofs.Relaxing.{wider}
 use Rattle.summary.proofs.Sound.{sound}
 use Rattle.summary.proofs.Tables.{bounded}
@@ -51,7 +52,7 @@ module _ {t : Thread} {G n : ℕ} {ends : ℕ → TurnEnd} {tab : List ℕ} (fit
           → {ss rest : List Step} → Stretch (Moves t turnOf) (Switches ends n) c γ d ss rest
           → (entry ends tab c γ d ≤ 4096) × (entry ends tab c γ d + length rest ≤ length ss)
       least turnOf c γ d p q s =
-          let b = bounded _ _ _ _ (ranged turnOf fits four two inside R) (closed turnOf fits four two inside R) p q s in (b .reached, b .most)
+          let b = bounded _ _ _ _ (ranged turnOf fits inside) (closed turnOf fits four two inside R) p q s in (b .reached, b .most)
 
       some : (turnOf : ℕ → ℕ) (c : Control) (γ : ℕ) (d : End Control) → InTable G n c → γ ≤ 16
           → InTable G n (endOf d) → entry ends tab c γ d ≤ 4096

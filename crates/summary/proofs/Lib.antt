@@ -7,6 +7,7 @@ pub mod Loops
 pub mod Meanings
 pub mod Overs
 pub mod Places
+pub mod Ranging
 pub mod Reaches
 pub mod Relaxing
 pub mod Resets

@@ -1,9 +1,9 @@
 -- `corpus` is safe and ends: each case ends past the place where it starts, and within the file.
 use Prim.Native.Nat.{_-_}
-use lib.ListN.{length}
 use borrow.Author.Needs.{needs}
-use Rattle.reach_vectors.proofs.corpus.Statement.{statement}
-use Rattle.reach_vectors.proofs.corpus.Tie as tie
+use lib.ListN.{length}
+use Rattle.judge_vectors.proofs.corpus.Statement.{statement}
+use Rattle.judge_vectors.proofs.corpus.Tie as tie
 
 abbrev Inv-loop : tie.InvT-loop
 Inv-loop s t₀ at₀ t at = Unit {0}
@@ -19,6 +19,15 @@ loop-holds c = search needs
 
 part-at-requires : tie.Need-part-at-requires Inv-loop μ-loop
 part-at-requires c κs = search needs
+
+byte-at-requires : tie.Need-byte-at-requires Inv-loop μ-loop
+byte-at-requires c κs = search needs
+
+add-number-at : tie.Need-add-number-at Inv-loop μ-loop
+add-number-at c = search needs
+
+number-at-requires : tie.Need-number-at-requires Inv-loop μ-loop
+number-at-requires c κs = search needs
 
 add-part-at : tie.Need-add-part-at Inv-loop μ-loop
 add-part-at c = search needs
@@ -71,6 +80,9 @@ corpus-spec =
     new-requires
     loop-holds
     part-at-requires
+    byte-at-requires
+    add-number-at
+    number-at-requires
     add-part-at
     part-at-requires-2
     sub-agrees

@@ -1,0 +1,132 @@
+-- Every proved case has its claims: one test, computed over the whole table, and one law that turns the test of a case into
+-- its claims. The test reads the record, replays the schedule, and explores the model for the verdict and the lines.
+use mathlib.Core.Bool.{Bool, true, false, _&&_}
+use mathlib.Core.List.{List, [], _∷_}
+use mathlib.Core.Path.{_≡_, refl, ap, _∙_}
+use Prim.Native.Nat.{ℕ, _*_, _<_}
+use native.Mathlib.Omega.{arith}
+use lib.Dec.{T, leb, eqb}
+use lib.ListN.{length, getD}
+use Rattle.model.specs.declared.Model.{Model}
+use Rattle.model.specs.declared.Shared.{Shared}
+use Rattle.model.specs.Lines.{powers, lineFrom, digits}
+use Rattle.model.specs.Rules.{applies}
+use Rattle.model.specs.Valid.{Valid, firstOf, headFault, symbolFault, rightFault, ruleFault, threadFault, faultOf}
+use Rattle.model.specs.Verdict.{found, Judged}
+use Rattle.model.specs.Walk.{walk, stepFrom, fire, turnFits}
+use Rattle.model.proofs.Ranges.{valid-fits}
+use Rattle.model.proofs.Table.{every, at}
+use Rattle.model.proofs.Tests.{passed, both, equal, tests}
+use Rattle.model.proofs.Stores.{length-bytes}
+use Rattle.record.specs.Reader.{Read, refused, value, readOf, front, head, byte, ranged, field, right, rule, ruleList, rules}
+use Rattle.replay.specs.declared.Replayed.{Replayed}
+use Rattle.replay.specs.declared.Replayed.the-variants as replayed
+use Rattle.replay.specs.Replay.{replayOf, stepsOf, sizeFits}
+use Rattle.replay.proofs.Accepts.{accepts}
+use Rattle.cases.specs.Cases.{cases}
+use Rattle.cases.specs.Claims.{Table, ungiven, given, Answer, Refused, Clear, Found, Case, Scheduled, Lined, ClaimsOf, Claims}
+use Rattle.cases.proofs.Explored.{grow, explored, closed}
+use Rattle.cases.proofs.Places.{Place, next}
+use Rattle.cases.proofs.Search.{finds}
+use Rattle.cases.proofs.Told.{avoids, delays, absent, followed, bitRight, drawn, avoids-clear, delays-least, drawn-lines}
+
+-- The bytes of a line table, if they are given, are right.
+abbrev linesRight : Model → List Place → Table → Bool
+linesRight m set ungiven = true
+linesRight m set (given store) = drawn m set store
+
+-- Replay accepts, with the target as the last state.
+abbrev reaches : Shared → Replayed → Bool
+reaches target (replayed.Accepted shared reached) = eqb (shared .0) (target .0) && reached
+reaches target (replayed.Refused n) = false
+
+-- The test of an answer for a model that was read.
+judges : Model → Answer → Bool
+judges m (Refused n) = false
+judges m (Clear t) = let set = explored m 0 in closed m 0 set && avoids m set && linesRight m set t
+judges m (Found n schedule t) =
+    let set = explored m n in
+    closed m n set && delays m n set && linesRight m set t && leb n 4095 && eqb (length schedule) (2 * n) &&
+    reaches (m .target) (replayOf m schedule)
+
+-- The test of an answer for what reading came to.
+comes : Read Model → Answer → Bool
+comes (refused k) (Refused n) = eqb k n
+comes (refused k) (Clear t) = false
+comes (refused k) (Found n schedule t) = false
+comes (value m []) a = eqb (faultOf m) 0 && judges m a
+comes (value m (b ∷ rest)) a = false
+
+-- The test of a case.
+holds : Case → Bool
+holds c = comes (readOf (c .bytes)) (c .answer)
+
+-- The lines.
+lines-right : (m : Model) (limit : ℕ) (set : List Place) → T (closed m limit set) → (t : Table) → T (linesRight m set t)
+    → Lined m t
+lines-right m limit set c ungiven h = tt
+lines-right m limit set c (given store) h = drawn-lines m limit set c store h
+
+-- The replay.
+accepted : (target : Shared) (r : Replayed) → T (reaches target r) → r ≡ replayed.Accepted target true
+accepted target (replayed.Accepted shared reached) h =
+    let w = both (eqb (shared .0) (target .0)) reached .0 h in
+    let same : shared ≡ target = ap {B = Shared} (λ n. record { 0 = n }) (equal (shared .0) (target .0) .0 (w .0)) in
+    rw (same, passed reached (w .1))
+accepted target (replayed.Refused n) h = absurd h
+
+-- The schedule: what replay accepts is one, with two bytes a step.
+scheduled : (m : Model) (n : ℕ) (schedule : List ℕ) → length schedule ≡ 2 * n → T (reaches (m .target) (replayOf m schedule))
+    → Scheduled m n schedule
+scheduled m n schedule e h =
+    let same = accepted (m .target) (replayOf m schedule) h in
+    let l = accepts m schedule (m .target) true .0 same in
+    record {
+      steps = l .steps;
+      stored = l .bytes;
+      reaches = l .leads;
+      count = omega (arith, length-bytes (l .steps), ap length (l .bytes), e);
+      replayed = same;
+    }
+
+-- The verdict, and all else that is claimed of a model that was read.
+judged : (bytes : List ℕ) (m : Model) → readOf bytes ≡ value m [] → Valid m → (a : Answer) → T (judges m a) → ClaimsOf bytes a
+unfolding judges
+judged bytes m e v (Refused n) h = absurd h
+judged bytes m e v (Clear t) h =
+    let set : List Place = explored m 0 in
+    let w = simp tests at h in
+    let none = avoids-clear m 0 set (w .0 .0) (valid-fits m .0 v .k .0) (w .0 .1) in
+    record { model = m; read = e; valid = v; holds = (none, lines-right m 0 set (w .0 .0) t (w .1)) }
+judged bytes m e v (Found n schedule t) h =
+    let set : List Place = explored m n in
+    let w = simp tests at h in
+    let c = w .0 .0 .0 .0 in
+    let s = scheduled m n schedule (w .0 .1) (w .1) in
+    let least = delays-least m n set (c .0) n (valid-fits m .0 v .k .0) (c .1) in
+    let shortest : Judged m (found n) =
+    (w .0 .0 .1, record { schedule = s .steps; reaches = s .reaches; steps = s .count; least = least }) in
+    record { model = m; read = e; valid = v; holds = (shortest, s, lines-right m n set (c .0) t (w .0 .0 .0 .1)) }
+
+-- The record.
+come : (bytes : List ℕ) (r : Read Model) → readOf bytes ≡ r → (a : Answer) → T (comes r a) → ClaimsOf bytes a
+unfolding comes
+come bytes (refused k) e (Refused n) h = e ∙ ap refused (equal k n .0 h)
+come bytes (refused k) e (Clear t) h = absurd h
+come bytes (refused k) e (Found n schedule t) h = absurd h
+come bytes (value m []) e a h =
+    let w = both (eqb (faultOf m) 0) (judges m a) .0 h in judged bytes m e (equal (faultOf m) 0 .0 (w .0)) a (w .1)
+come bytes (value m (b ∷ rest)) e a h = absurd h
+
+-- A case whose test passes has its claims.
+claimed : (c : Case) → T (holds c) → Claims c
+unfolding holds
+claimed c t = come (c .bytes) (readOf (c .bytes)) refl (c .answer) t
+
+all-hold : T (every (λ i. holds) cases)
+unfolding cases holds comes judges readOf front head byte ranged field right rule ruleList rules explored grow closed next avoids delays absent followed bitRight drawn finds powers lineFrom digits applies replayOf stepsOf sizeFits walk stepFrom fire turnFits faultOf headFault threadFault ruleFault rightFault symbolFault firstOf
+all-hold = tt
+
+-- Every case of the table has its claims.
+pub tried : (i : ℕ) (d : Case) → i < length cases → Claims (getD cases i d)
+tried i d h = claimed (getD cases i d) (at (λ j. holds) cases all-hold i d h)

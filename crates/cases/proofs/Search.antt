@@ -1,0 +1,64 @@
+-- A search for a run along a line, for lines that a run of few steps follows: where it succeeds, there is such a run. By
+-- recursion on the number of steps and turn ends that it may still make.
+use mathlib.Core.Bool.{Bool, true, false, _&&_, _||_}
+use mathlib.Core.List.{List, [], _∷_}
+use mathlib.Core.Logic.{inl, inr}
+use mathlib.Core.Path.{_≡_, refl, subst}
+use Prim.Native.Nat.{ℕ, zero, suc}
+use lib.Dec.{T, eqb}
+use Rattle.model.specs.declared.Model.{Model}
+use Rattle.model.specs.Rules.{applies, put}
+use Rattle.model.specs.Runs.{Turns, stop, end, move}
+use Rattle.model.specs.Walk.{ownerOf, threadOf, ruleOf, Stacks, stackOf, withStack, Step}
+use Rattle.model.proofs.Tests.{both, equal}
+use Rattle.cases.proofs.Scans.{either, some, some-at}
+
+-- The stack has a top, and the test passes at it and what lies below.
+abbrev pub onTop : List ℕ → (ℕ → List ℕ → Bool) → Bool
+onTop [] f = false
+onTop (x ∷ w) f = f x w
+
+on-top : (l : List ℕ) (f : ℕ → List ℕ → Bool) → T (onTop l f) → (x : ℕ) × (w : List ℕ) × (l ≡ x ∷ w) × T (f x w)
+on-top [] f t = absurd t
+on-top (x ∷ w) f t = (x, w, refl, t)
+
+-- The stacks after a step in turn t by rule r, where w is what lies below the top.
+abbrev pub stacksBy : Model → ℕ → Stacks → List ℕ → ℕ → Stacks
+stacksBy m t σ w r = withStack (ownerOf t) (put (ruleOf m t r .right) w) σ
+
+-- Some run from here on follows the line, with at most so many steps and turn ends.
+unfoldable pub finds : ℕ → Model → ℕ → ℕ → Stacks → List ℕ → Bool
+finds zero m t g σ [] = true
+finds zero m t g σ (o ∷ line) = false
+finds (suc more) m t g σ [] = true
+finds (suc more) m t g σ (o ∷ line) =
+    let over = finds more m (suc t) g σ line in
+    eqb g o && over ||
+    onTop (stackOf (ownerOf t) σ) (λ x w. some (threadOf (ownerOf t) m .count) (λ r.
+    let onward = finds more m t (ruleOf m t r .after .0) (stacksBy m t σ w r) (o ∷ line) in
+    applies (threadOf (ownerOf t) m) r g x && onward))
+
+-- Then there is such a run.
+pub finds-run : (more : ℕ) (m : Model) (t g : ℕ) (σ : Stacks) (line : List ℕ) → T (finds more m t g σ line)
+    → (ss : List Step) × Turns m t g σ line ss
+unfolding finds
+finds-run zero m t g σ [] h = ([], stop)
+finds-run zero m t g σ (o ∷ line) h = absurd h
+finds-run (suc more) m t g σ [] h = ([], stop)
+finds-run (suc more) m t g σ (o ∷ line) h =
+    let over : Bool = finds more m (suc t) g σ line in
+    let onward : List ℕ → ℕ → Bool = λ w r. finds more m t (ruleOf m t r .after .0) (stacksBy m t σ w r) (o ∷ line) in
+    let by : ℕ → List ℕ → ℕ → Bool = λ x w r. applies (threadOf (ownerOf t) m) r g x && onward w r in
+    let moves : ℕ → List ℕ → Bool = λ x w. some (threadOf (ownerOf t) m .count) (by x w) in
+    elim (either (eqb g o && over) (onTop (stackOf (ownerOf t) σ) moves) h) [
+      | inl z ↦
+          let w = both (eqb g o) over .0 z in
+          let r = finds-run more m (suc t) g σ line (w .1) in
+          (r .0, subst (λ u. Turns m t g σ (u ∷ line) (r .0)) (equal g o .0 (w .0)) (end (r .1)))
+      | inr z ↦
+          let s = on-top (stackOf (ownerOf t) σ) moves z in
+          let q = some-at (threadOf (ownerOf t) m .count) (by (s .0) (s .1)) (s .3) in
+          let w = both (applies (threadOf (ownerOf t) m) (q .0) g (s .0)) (onward (s .1) (q .0)) .0 (q .1) in
+          let r = finds-run more m t (ruleOf m t (q .0) .after .0) (stacksBy m t σ (s .1) (q .0)) (o ∷ line) (w .1) in
+          (record { turn = t; rule = q .0 } ∷ r .0, move {ss = r .0} (s .2) (w .0) (r .1))
+    ]

@@ -1,0 +1,141 @@
+-- What a closed set of places tells of a model: Clear, or how many steps reach the target at least, and which lines are not
+-- marked. A run that reaches the target is one along a full line that ends there, so it is at a place of the set.
+use mathlib.Core.Bool.{Bool, true, false, _&&_, _||_, not, cond}
+use mathlib.Core.List.{List, [], _∷_}
+use mathlib.Core.Logic.{_↔_, inl, inr}
+use mathlib.Core.Path.{_≡_, refl, sym, _∙_}
+use Prim.Native.Nat.{ℕ, _+_, _*_, _<_, _≤_}
+use native.Mathlib.Nat.{le-refl}
+use native.Mathlib.Omega.{arith}
+use lib.Dec.{T, T-not, leb, ltb, eqb, ltb→lt}
+use lib.ListN.{length, replicate, length-replicate, drop-of-length-le}
+use Rattle.model.specs.declared.Model.{Model}
+use Rattle.model.specs.Lines.{bits, lineAt}
+use Rattle.model.specs.Runs.{Reaches, Marked}
+use Rattle.model.specs.Verdict.{clear, Judged, AtLeast}
+use Rattle.model.specs.Walk.{Config, Stacks, startStacks, Step, arrived, startOf, stepFrom, walk}
+use Rattle.model.proofs.Positions.{line-at}
+use Rattle.model.proofs.Steps.{through, stepped}
+use Rattle.model.proofs.Tests.{both, order, equal}
+use Rattle.model.proofs.Turns.{TurnsBelow, legal-turns}
+use Rattle.reach.specs.Answer.{LineTable}
+use Rattle.reach.specs.Bits.{bitAt, bytesFor}
+use Rattle.cases.proofs.Explored.{closed, arrives, At, passes}
+use Rattle.cases.proofs.Places.{Place}
+use Rattle.cases.proofs.Scans.{either, all, alike, alike-refl, below, at-below}
+use Rattle.cases.proofs.Search.{finds, finds-run}
+
+-- The shared state of a place is the target.
+abbrev pub onTarget : Model → Place → Bool
+onTarget m c = eqb (c .shared) (m .target .0)
+
+-- No place has the target as its shared state ..
+unfoldable pub avoids : Model → List Place → Bool
+avoids m set = all (λ c. not (onTarget m c)) set
+
+-- .. or none that fewer than n steps may lead to.
+unfoldable pub delays : Model → ℕ → List Place → Bool
+delays m n set = all (λ c. not (onTarget m c) || leb n (c .steps)) set
+
+-- No place was come to along the line.
+unfoldable pub absent : List Place → List ℕ → Bool
+absent set line = all (λ c. not (alike (c .line) line)) set
+
+-- A run along a line from the start is found, one with at most two steps more than it could have turn ends.
+unfoldable pub followed : Model → List ℕ → Bool
+followed m line = finds (2 * m .k + 2) m 0 (m .start .0) (startStacks m) line
+
+-- The bit at a place of a store is right: where it stands a run is found, and where not the line is absent.
+unfoldable pub bitRight : Model → List Place → List ℕ → ℕ → Bool
+bitRight m set store p =
+    let run = followed m (lineAt (m .g) (m .k) p) in
+    let none = absent set (lineAt (m .g) (m .k) p) in
+    cond (bitAt store p) run none
+
+-- A store is the line table by its length, its bits and its spare bits.
+unfoldable pub drawn : Model → List Place → List ℕ → Bool
+drawn m set store =
+    eqb (length store) (bytesFor (m .g) (m .k)) && below (bits (m .g) (m .k)) (bitRight m set store) &&
+    below (8 * bytesFor (m .g) (m .k)) (λ p. ltb p (bits (m .g) (m .k)) || not (bitAt store p))
+
+-- The steps of a walk are made in the turns of K rounds.
+walk-below : (m : Model) (ss : List Step) (c : Config) {d : Config} → walk m c ss ≡ arrived d → TurnsBelow (2 * m .k) ss
+unfolding walk
+walk-below m [] c e = tt
+walk-below m (s ∷ ss) c e =
+    let z = through (stepFrom m c s) (λ d. walk m d ss) e in (stepped (z .1) .early, walk-below m ss (z .0) (z .2))
+
+-- A test that chooses between a thing's proof and its refutation decides it.
+decided : (b x y : Bool) {X : Type 0} → T (cond b x y) → (T x → X) → (T y → X → ⊥) → T b ↔ X
+decided true x y t f g = (λ h. f t, λ h. tt)
+decided false x y t f g = (λ h. absurd h, λ h. g t h)
+
+-- A bit past the last line does not stand.
+spared : (count : ℕ) (b : Bool) (p : ℕ) → count ≤ p → T (ltb p count || not b) → b ≡ false
+spared count false p h t = refl
+spared count true p h t =
+    elim (either (ltb p count) false t) [ inl z ↦ absurd (omega (arith, ltb→lt p count z)) | inr z ↦ absurd z ]
+
+module _ (m : Model) (limit : ℕ) (set : List Place) (t : T (closed m limit set)) where
+  -- A run that reaches the target is at a place of the set.
+  reached : 1 ≤ m .k → (ss : List Step) → Reaches m ss
+      → (line : List ℕ) × (τ : Stacks) × At set line (length ss) (m .target .0) τ
+  reached k ss r =
+      let a = legal-turns (2 * m .k) ss (m .target .0) (omega arith) (le-refl (2 * m .k)) .0
+      (walk-below m ss (startOf m) (r .walked), r) in
+      let z = arrives m limit set t (a .line) ss (omega (arith, a .size)) (a .turns) in
+      (a .line, z .0, rw (a .last) at (z .1))
+
+  pub avoids-clear : 1 ≤ m .k → T (avoids m set) → Judged m clear
+  unfolding avoids
+  avoids-clear k h ss r =
+      let c = passes (λ c. not (onTarget m c)) (reached k ss r .2) h in
+      T-not (onTarget m (c .0)) (c .1) (equal (c .0 .shared) (m .target .0) .1 (c .2 .shared))
+
+  pub delays-least : (n : ℕ) → 1 ≤ m .k → T (delays m n set) → AtLeast m n
+  unfolding delays
+  delays-least n k h ss r =
+      let c = passes (λ c. not (onTarget m c) || leb n (c .steps)) (reached k ss r .2) h in
+      let same = equal (c .0 .shared) (m .target .0) .1 (c .2 .shared) in
+      elim (either (not (onTarget m (c .0))) (leb n (c .0 .steps)) (c .1)) [
+        | inl y ↦ absurd (T-not (onTarget m (c .0)) y same)
+        | inr y ↦ omega (arith, order n (c .0 .steps) .0 y, c .2 .steps)
+      ]
+
+  absent-unmarked : (line : List ℕ) → length line ≤ 2 * m .k → T (absent set line) → Marked m line → ⊥
+  unfolding absent
+  absent-unmarked line h a r =
+      let z = arrives m limit set t line (r .0) h (r .1) in
+      let c = passes (λ c. not (alike (c .line) line)) (z .1) a in
+      T-not (alike (c .0 .line) line) (c .1) (rw (c .2 .line) (alike-refl line))
+
+  bit-right : (store : List ℕ) (p : ℕ) → p < bits (m .g) (m .k) → T (bitRight m set store p)
+      → T (bitAt store p) ↔ Marked m (lineAt (m .g) (m .k) p)
+  unfolding bitRight followed
+  bit-right store p h b =
+      let line : List ℕ = lineAt (m .g) (m .k) p in
+      decided (bitAt store p) (followed m line) (absent set line) b
+      (finds-run (2 * m .k + 2) m 0 (m .start .0) (startStacks m) line)
+      (absent-unmarked line (line-at (m .g) (m .k) p h .most))
+
+  pub drawn-lines : (store : List ℕ) → T (drawn m set store)
+      → (length store ≡ bytesFor (m .g) (m .k)) × LineTable m (replicate (length store) 0) store
+  unfolding drawn
+  drawn-lines store h =
+      let count : ℕ = bits (m .g) (m .k) in
+      let bytes : ℕ = bytesFor (m .g) (m .k) in
+      let free : ℕ → Bool = λ p. ltb p count || not (bitAt store p) in
+      let w = both (eqb (length store) bytes && below count (bitRight m set store)) (below (8 * bytes) free) .0 h in
+      let v = both (eqb (length store) bytes) (below count (bitRight m set store)) .0 (w .0) in
+      let size : length store ≡ bytes = equal (length store) bytes .0 (v .0) in
+      let zeros : List ℕ = replicate (length store) 0 in
+      let same : length zeros ≡ length store = simp length-replicate in (
+        size,
+        record {
+          size = sym same;
+          marks = λ p l. bit-right store p l (at-below count (bitRight m set store) (v .1) p l);
+          spare = λ p l b. spared count (bitAt store p) p l (at-below (8 * bytes) free (w .1) p b);
+          beyond =
+              drop-of-length-le store {i = bytes} (omega arith) ∙ sym (drop-of-length-le zeros {i = bytes} (omega arith));
+        },
+      )

@@ -1,0 +1,63 @@
+-- What is claimed of a record: its refusal, or a verdict on its model over runs of any length, with a shortest schedule and
+-- the line table where they are given.
+use mathlib.Core.Bool.{true}
+use mathlib.Core.List.{List, []}
+use mathlib.Core.Path.{_≡_}
+use Prim.Native.Nat.{ℕ}
+use lib.ListN.{length, replicate}
+use Rattle.model.specs.declared.Model.{Model}
+use Rattle.model.specs.Runs.{Reaches}
+use Rattle.model.specs.Valid.{Valid}
+use Rattle.model.specs.Verdict.{clear, found, Judged}
+use Rattle.model.specs.Walk.{Step, bytesOf}
+use Rattle.reach.specs.Answer.{LineTable}
+use Rattle.reach.specs.Bits.{bytesFor}
+use Rattle.record.specs.Reader.{refused, value, readOf}
+use Rattle.replay.specs.declared.Replayed.the-variants.{Accepted}
+use Rattle.replay.specs.Replay.{replayOf}
+
+-- The bytes of a line table, if they are given.
+pub data Table : Type 0 where
+  ungiven : Table
+  given : List ℕ → Table
+
+-- What must come of a record: a refusal by its number, Clear, or Found with its steps and the bytes of a schedule.
+pub data Answer : Type 0 where
+  Refused : ℕ → Answer
+  Clear : Table → Answer
+  Found : ℕ → List ℕ → Table → Answer
+
+-- A record, byte by byte, and what must come of it.
+pub record Case : Type 0 where
+  pub bytes : List ℕ
+  pub answer : Answer
+
+-- A record is accepted, and something holds of its model.
+pub record Accepts (bytes : List ℕ) (Holds : Model → Type 0) : Type 0 where
+  pub model : Model
+  pub read : readOf bytes ≡ value model []
+  pub valid : Valid model
+  pub holds : Holds model
+
+-- Bytes are a schedule of n steps that reaches the target, and replay says so.
+pub record Scheduled (m : Model) (n : ℕ) (bytes : List ℕ) : Type 0 where
+  pub steps : List Step
+  pub stored : bytes ≡ bytesOf steps
+  pub reaches : Reaches m steps
+  pub count : length steps ≡ n
+  pub replayed : replayOf m bytes ≡ Accepted (m .target) true
+
+-- Where bytes are given, they are just as many as the line table of a model has, and a store of zeros comes to hold them.
+abbrev pub Lined : Model → Table → Type 0
+Lined m ungiven = Unit {0}
+Lined m (given store) = (length store ≡ bytesFor (m .g) (m .k)) × LineTable m (replicate (length store) 0) store
+
+-- What an answer claims of a record.
+abbrev pub ClaimsOf : List ℕ → Answer → Type 0
+ClaimsOf bytes (Refused n) = readOf bytes ≡ refused n
+ClaimsOf bytes (Clear t) = Accepts bytes (λ m. Judged m clear × Lined m t)
+ClaimsOf bytes (Found n schedule t) = Accepts bytes (λ m. Judged m (found n) × Scheduled m n schedule × Lined m t)
+
+-- The claims of a case.
+abbrev pub Claims : Case → Type 0
+Claims c = ClaimsOf (c .bytes) (c .answer)

@@ -1,0 +1,4 @@
+pub mod Answers
+pub mod Choices
+pub mod Reaching
+pub mod Schedules

@@ -1,0 +1,112 @@
+-- The best line's steps are the least of all runs that reach the target: such a run goes along a full line that ends in the
+-- target, its steps are both threads' views of that line, and two views of one line join to a run along it.
+use mathlib.Core.List.{List, [], _∷_}
+use mathlib.Core.Path.{_≡_, sym, ap, subst, _∙_}
+use Prim.Native.Nat.{ℕ, _*_, _%_, _^_, _≤_, _<_}
+use native.Mathlib.Nat.{le-refl}
+use native.Mathlib.Omega.{arith}
+use lib.ListN.{length}
+use Rattle.model.specs.declared.Model.{Model}
+use Rattle.model.specs.Fits.{Fits}
+use Rattle.model.specs.Lines.{States, lastOf, value, digits}
+use Rattle.model.specs.Runs.{Reaches, Turns}
+use Rattle.model.specs.Verdict.{clear, long, found, Judged}
+use Rattle.model.specs.Walk.{A, B, startStacks, Config, Step, arrived, stepFrom, walk}
+use Rattle.model.proofs.Inside.{inside}
+use Rattle.model.proofs.Positions.{length-digits, digits-value}
+use Rattle.model.proofs.Ranges.{valid-fits}
+use Rattle.model.proofs.Steps.{through, stepped}
+use Rattle.model.proofs.Turns.{TurnsBelow, Along, legal-turns}
+use Rattle.summary.specs.Table.{capped}
+use Rattle.reach.specs.Cost.{Least, BothCosts}
+use Rattle.reach.proofs.Full.{last-digits}
+use Rattle.reach.proofs.Marks.{line-cost, full-cost}
+use Rattle.reach.proofs.Views.{views, joined}
+use Rattle.judge.specs.declared.Choice.{Choice}
+use Rattle.judge.specs.Best.{Best}
+
+-- The steps of a walk that is not refused are made in turns below 2K.
+walk-below : (m : Model) (ss : List Step) (c : Config) {d : Config} → walk m c ss ≡ arrived d → TurnsBelow (2 * m .k) ss
+unfolding walk
+walk-below m [] c e = tt
+walk-below m (s ∷ ss) c e =
+    let gone = through (stepFrom m c s) (λ d. walk m d ss) e in
+    (stepped (gone .1) .early, walk-below m ss (gone .0) (gone .2))
+
+module _ {m : Model} where
+  module _ (f : Fits m) where
+    -- A run along a full line that ends in the target reaches it.
+    pub run-reaches : {v : ℕ} {ss : List Step} → v < m .g ^ (2 * m .k) → v % m .g ≡ m .target .0
+        → Turns m 0 (m .start .0) (startStacks m) (digits (m .g) (2 * m .k) v) ss → Reaches m ss
+    run-reaches {v} {ss} low ends r =
+        let some : 0 < 2 * m .k = omega (arith, f .k) in
+        legal-turns (2 * m .k) ss (m .target .0) some (le-refl (2 * m .k)) .1 (record {
+          line = digits (m .g) (2 * m .k) v;
+          size = length-digits (m .g) (2 * m .k) v;
+          turns = r;
+          last = last-digits (m .g) (2 * m .k) v (m .start .0) (f .g .0) some low ∙ ends;
+        }) .1
+
+    -- A run that reaches the target goes along a full line.
+    along : {ss : List Step} → Reaches m ss → Along m (2 * m .k) ss (m .target .0)
+    along {ss} r =
+        legal-turns (2 * m .k) ss (m .target .0) (omega (arith, f .k)) (le-refl (2 * m .k)) .0
+        (walk-below m ss _ (r .walked), r)
+
+    -- The last state of a full line is the rest of its value by G.
+    line-ends : (line : List ℕ) {target : ℕ} → length line ≡ 2 * m .k → States (m .g) line
+        → lastOf (m .start .0) line ≡ target → value (m .g) line < m .g ^ (2 * m .k) → value (m .g) line % m .g ≡ target
+    line-ends line size states last low =
+        let v : ℕ = value (m .g) line in
+        let same : digits (m .g) (2 * m .k) v ≡ line =
+        subst (λ n. digits (m .g) n v ≡ line) size (digits-value (m .g) line states) in
+        let rest = last-digits (m .g) (2 * m .k) v (m .start .0) (f .g .0) (omega (arith, f .k)) low in
+        sym rest ∙ (ap (lastOf (m .start .0)) same ∙ last)
+
+    module _ {a b : List ℕ} {c : Choice} (costs : BothCosts m a b)
+        (best : Best (m .g) (m .target .0) (m .g ^ (2 * m .k)) a b c) where
+      -- The steps of the best line are the least of all runs that reach the target.
+      pub reaching : Least (Reaches m) (c .steps)
+      reaching = record { some = some; least = λ {ss} r. least r }
+        where
+          some : c .steps ≤ 4096 → (ss : List Step) × Reaches m ss × (capped (length ss) ≡ c .steps)
+          some h =
+              let s = best .some h in
+              let o = s .0 in
+              let p = line-cost m A a (f .k .0) (costs .0) (c .line) (o .low) .some (o .first) in
+              let q = line-cost m B b (f .k .0) (costs .1) (c .line) (o .low) .some (o .second) in
+              let r = joined {σ = startStacks m} (p .1) (q .1) in
+              (r .0, run-reaches (o .low) (o .ends) (r .1), omega (arith, p .2, q .2, r .2, s .1))
+
+          least : {ss : List Step} → Reaches m ss → (c .steps ≤ 4096) × (c .steps ≤ length ss)
+          least {ss} r =
+              let w = along r in
+              let states = inside (valid-fits m .1 f) (f .start) (w .turns) in
+              let v = views (w .turns) in
+              let x = full-cost m A a (f .k .0) (costs .0) (w .line) (w .size) states in
+              let y = full-cost m B b (f .k .0) (costs .1) (w .line) (w .size) states in
+              let i = x .1 .least (v .a) in
+              let j = y .1 .least (v .b) in
+              let z = best .least (value (m .g) (w .line)) (record {
+                low = x .0;
+                ends = line-ends (w .line) (w .size) states (w .last) (x .0);
+                first = i .0;
+                second = j .0;
+              }) in
+              (z .0, omega (arith, z .1, i .1, j .1, v .steps))
+
+  -- The verdict by the least steps of the runs that reach the target: above 4,096 there is none ..
+  pub judged-clear : {n : ℕ} → Least (Reaches m) n → 4096 < n → Judged m clear
+  judged-clear l h ss r = omega (arith, l .least r .0)
+
+  -- .. at 4,096 each has so many steps or more ..
+  pub judged-long : {n : ℕ} → Least (Reaches m) n → n ≡ 4096 → Judged m long
+  judged-long l e =
+      let s = l .some (omega arith) in
+      ((s .0, s .1), λ ss r. omega (arith, l .least r .1))
+
+  -- .. and below it one has just so many.
+  pub judged-found : {n : ℕ} → Least (Reaches m) n → n ≤ 4095 → Judged m (found n)
+  judged-found l h =
+      let s = l .some (omega arith) in
+      (h, record { schedule = s .0; reaches = s .1; steps = omega (arith, s .2); least = λ ss r. l .least r .1 })

@@ -1,0 +1,95 @@
+-- The schedule of the best line: its two costs are what the writer asks for, and what it writes reaches the target in the
+-- least number of steps. So replay accepts it.
+use mathlib.Core.Bool.{true}
+use mathlib.Core.List.{List}
+use mathlib.Core.Path.{_≡_, refl, sym, _∙_}
+use Prim.Native.Nat.{ℕ, _+_, _*_, _^_, _≤_, _<_}
+use native.Mathlib.Omega.{arith}
+use borrow.Author.Tests.{eq-eqb}
+use lib.Dec.{leb, leb→le}
+use lib.ListN.{length, take, getD}
+use lib.Seq.{sets-eq, take-append-seam}
+use Rattle.model.specs.declared.Model.{Model}
+use Rattle.model.specs.Fits.{Fits}
+use Rattle.model.specs.Lines.{digits}
+use Rattle.model.specs.Valid.{refuse, Valid}
+use Rattle.model.specs.Walk.{A, B, bytesOf}
+use Rattle.model.proofs.Ranges.{valid-fits}
+use Rattle.model.proofs.Stores.{length-bytes}
+use Rattle.reach.specs.Answer.{lineRefusal}
+use Rattle.reach.specs.Cost.{BothCosts}
+use Rattle.reach.proofs.Answers.{nothing, untroubled, good}
+use Rattle.reach.proofs.Digits.{power-small}
+use Rattle.reach.proofs.Marks.{line-cost}
+use Rattle.replay.specs.declared.Replayed.the-variants.{Accepted}
+use Rattle.replay.specs.Replay.{replayOf}
+use Rattle.replay.proofs.Accepts.{accepts}
+use Rattle.witness.specs.Written.{Chosen, Written}
+use Rattle.judge.specs.declared.Choice.{Choice}
+use Rattle.judge.specs.declared.Judgement.the-variants.{Found}
+use Rattle.judge.specs.Answer.{refusalOf, Answers, Scheduled}
+use Rattle.judge.specs.Best.{Best}
+use Rattle.judge.proofs.Answers.{checks}
+use Rattle.judge.proofs.Reaching.{run-reaches}
+
+module _ {m : Model} (f : Fits m) {a b : List ℕ} {c : Choice}
+    (best : Best (m .g) (m .target .0) (m .g ^ (2 * m .k)) a b c) (most : c .steps ≤ 4095) where
+  -- The best line has a place in the lists of costs.
+  pub best-low : c .line < 4096
+  best-low =
+      let small : m .g ^ (2 * m .k) ≤ 4096 = power-small {n = 2 * m .k} (f .g .1) (omega (arith, f .k)) in
+      omega (arith, best .some (omega arith) .0 .low)
+
+  -- Its two costs add up to the steps.
+  pub best-steps : getD a (c .line) 0 + getD b (c .line) 0 ≡ c .steps
+  best-steps = omega (arith, best .some (omega arith) .1)
+
+  -- What the writer asks for.
+  pub best-chosen : BothCosts m a b → Chosen m (c .line) (getD a (c .line) 0) (getD b (c .line) 0)
+  best-chosen costs =
+      let o = best .some (omega arith) .0 in
+      record {
+        low = o .low;
+        a = line-cost m A a (f .k .0) (costs .0) (c .line) (o .low);
+        b = line-cost m B b (f .k .0) (costs .1) (c .line) (o .low);
+        most = omega (arith, best-steps);
+      }
+
+  -- What it has written.
+  pub best-scheduled : {n : ℕ} {old new : List ℕ} → n ≡ getD a (c .line) 0 + getD b (c .line) 0
+      → Written m (digits (m .g) (2 * m .k) (c .line)) n old new → Scheduled m (c .steps) old new
+  best-scheduled e w =
+      let o = best .some (omega arith) .0 in
+      record {
+        steps = w .steps;
+        reaches = run-reaches f (o .low) (o .ends) (w .run);
+        count = w .count ∙ (e ∙ best-steps);
+        stored = w .stored;
+      }
+
+-- Replay accepts a schedule that stands in a store with room for it, and says that it reaches the target.
+pub replayed : (m : Model) {n : ℕ} {old new : List ℕ} → Valid m → n ≤ 4095 → 2 * n ≤ length old
+    → Scheduled m n old new → replayOf m (take (2 * n) new) ≡ Accepted (m .target) true
+replayed m {n} {old} {new} v most room s =
+    let bytes : List ℕ = bytesOf (s .steps) in
+    let size : length bytes ≡ 2 * n = length-bytes (s .steps) ∙ rw (s .count) in
+    let front : take (2 * n) new ≡ bytes =
+    rw (s .stored, ← size, sets-eq bytes old 0 (omega arith)) (take-append-seam bytes _) in
+    accepts m (take (2 * n) new) (m .target) true .1 (record {
+      valid = v;
+      steps = s .steps;
+      bytes = front;
+      most = omega (arith, s .count);
+      leads = s .reaches;
+      target = sym (eq-eqb (m .target .0) (m .target .0) refl);
+    })
+
+-- Where the judge says Found n, replay accepts the first 2n bytes of the schedule store, and says that they reach the target.
+pub found-replayed : (m : Model) (lines : ℕ) {n : ℕ} {old new : List ℕ}
+    → Answers m (refusalOf m lines (length old)) (Found n) → Scheduled m n old new
+    → replayOf m (take (2 * n) new) ≡ Accepted (m .target) true
+found-replayed m lines {n} {old} a s =
+    let all = sym (checks m lines (length old) refl ∙ a .0) in
+    let none = nothing (lineRefusal m lines) (refuse 7 (leb 8190 (length old))) all in
+    let room = leb→le 8190 (length old) (untroubled (leb 8190 (length old)) (none .1)) in
+    replayed m (valid-fits m .1 (good m lines (sym (none .0)) .0)) (a .1 .0) (omega (arith, room, a .1 .0)) s

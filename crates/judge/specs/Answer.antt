@@ -1,0 +1,51 @@
+-- What the judge answers, and what each store then holds.
+use mathlib.Core.Bool.{_&&_}
+use mathlib.Core.List.{List, [], _∷_}
+use mathlib.Core.Path.{_≡_}
+use Prim.Native.Nat.{ℕ, _<_}
+use lib.Dec.{leb}
+use lib.ListN.{length}
+use lib.Seq.{sets}
+use Rattle.model.specs.declared.Model.{Model}
+use Rattle.model.specs.Runs.{Reaches}
+use Rattle.model.specs.Valid.{refuse, firstOf, faultOf}
+use Rattle.model.specs.Verdict.{clear, long, found, Judged}
+use Rattle.model.specs.Walk.{Step, bytesOf}
+use Rattle.reach.specs.Answer.{LineTable}
+use Rattle.reach.specs.Bits.{bytesFor}
+use Rattle.judge.specs.declared.Judgement.{Judgement}
+use Rattle.judge.specs.declared.Judgement.the-variants.{Clear, Long, Found, Refused}
+
+-- The refusal that a model and the lengths of the two stores get: the model's fault (3, 4), then 7 where the line store has
+-- too few bits or the schedule store fewer than 8,190 bytes; 0 for none.
+unfoldable pub refusalOf : Model → ℕ → ℕ → ℕ
+refusalOf m lines schedule =
+    firstOf (faultOf m ∷ refuse 7 (leb (bytesFor (m .g) (m .k)) lines && leb 8190 schedule) ∷ [])
+
+-- An answer is right where n is the refusal due: that number alone, or where there is none a verdict that is true of all runs.
+abbrev pub Answers : Model → ℕ → Judgement → Type 0
+Answers m n Clear = (n ≡ 0) × Judged m clear
+Answers m n Long = (n ≡ 0) × Judged m long
+Answers m n (Found s) = (n ≡ 0) × Judged m (found s)
+Answers m n (Refused r) = (0 < n) × (r ≡ n)
+
+-- What the line store holds after an answer: the model's line table, or what it held.
+abbrev pub LeavesLines : Model → Judgement → List ℕ → List ℕ → Type 0
+LeavesLines m Clear old new = LineTable m old new
+LeavesLines m Long old new = LineTable m old new
+LeavesLines m (Found s) old new = LineTable m old new
+LeavesLines m (Refused r) old new = new ≡ old
+
+-- A store whose first bytes are a schedule of n steps that reaches the target; the bytes beyond are as they were.
+pub record Scheduled (m : Model) (n : ℕ) (old new : List ℕ) : Type 0 where
+  pub steps : List Step
+  pub reaches : Reaches m steps
+  pub count : length steps ≡ n
+  pub stored : new ≡ sets old 0 (bytesOf steps)
+
+-- What the schedule store holds after an answer: a shortest schedule where there is one of at most 4,095 steps, or what it held.
+abbrev pub LeavesSchedule : Model → Judgement → List ℕ → List ℕ → Type 0
+LeavesSchedule m Clear old new = new ≡ old
+LeavesSchedule m Long old new = new ≡ old
+LeavesSchedule m (Found s) old new = Scheduled m s old new
+LeavesSchedule m (Refused r) old new = new ≡ old

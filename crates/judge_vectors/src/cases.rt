@@ -1,0 +1,211 @@
+// Comparisons of a judgement with what is known of a model. Every store is filled with 170 beforehand.
+use judge::Judgement;
+use model::Model;
+use model::Thread;
+use reach::Outcome;
+use replay::Replayed;
+
+// The numbers of the verdicts in the files of cases.
+pub const CLEAR: u8 = 0;
+
+pub const LONG: u8 = 1;
+
+pub const FOUND: u8 = 2;
+
+// A judgement is this verdict, and where it is Found, of so many steps.
+fn is(j: Judgement, kind: u8, steps: u64) -> bool {
+    match j {
+        Judgement::Clear => kind == CLEAR,
+        Judgement::Long => kind == LONG,
+        Judgement::Found(n) => kind == FOUND && n == steps,
+        Judgement::Refused(_) => false,
+    }
+}
+
+// A judgement is a refusal with this number.
+fn refused(j: Judgement, number: u8) -> bool {
+    match j {
+        Judgement::Clear => false,
+        Judgement::Long => false,
+        Judgement::Found(_) => false,
+        Judgement::Refused(n) => n == number,
+    }
+}
+
+// The call for line tables fills a store, and it then holds the same as another.
+fn same_lines(m: Model, lines: &[u8], store: &mut [u8]) -> bool {
+    let n = lines.len();
+    if store.len() < n {
+        return false;
+    }
+    match reach::lines(m, &mut store[0..n]) {
+        Outcome::Done => check::same(&store[0..n], lines),
+        Outcome::Refused(_) => false,
+    }
+}
+
+// Where the verdict is Found, a schedule store begins with a schedule of so many steps that replay finds to reach the target;
+// all other bytes are as they were.
+fn scheduled(m: Model, kind: u8, steps: usize, schedule: &[u8]) -> bool {
+    if kind != FOUND {
+        return vectors::filled(schedule, 170);
+    }
+    if 4095 < steps {
+        return false;
+    }
+    let end = 2 * steps;
+    if schedule.len() < end {
+        return false;
+    }
+    if !vectors::filled(&schedule[end..], 170) {
+        return false;
+    }
+    match replay::replay(m, &schedule[0..end]) {
+        Replayed::Accepted(shared, reached) => reached && shared.0 == m.target.0,
+        Replayed::Refused(_) => false,
+    }
+}
+
+// The judgement on a model and what it leaves in two stores.
+pub fn judged(m: Model, kind: u8, steps: usize, lines: &mut [u8], schedule: &mut [u8]) -> bool {
+    if !is(judge::judge(m, lines, schedule), kind, steps as u64) {
+        return false;
+    }
+    let mut store = [170u8; 700];
+    if !same_lines(m, lines, &mut store) {
+        return false;
+    }
+    scheduled(m, kind, steps, schedule)
+}
+
+// The judgement on the model that a record holds, with stores longer than it needs; the line table too where one is given.
+pub fn agrees(bytes: &[u8], kind: u8, steps: usize, table: &[u8]) -> bool {
+    let reading = record::read(bytes);
+    let m = reading.model;
+    let mut lines = [170u8; 700];
+    let mut schedule = [170u8; 8200];
+    if !judged(m, kind, steps, &mut lines, &mut schedule) {
+        return false;
+    }
+    let n = table.len();
+    if n == 0 {
+        return true;
+    }
+    if 700 < n {
+        return false;
+    }
+    if !vectors::filled(&lines[n..], 170) {
+        return false;
+    }
+    check::same(&lines[0..n], table)
+}
+
+// The judgement writes just this schedule.
+pub fn writes(bytes: &[u8], expected: &[u8]) -> bool {
+    let reading = record::read(bytes);
+    let m = reading.model;
+    let mut lines = [170u8; 700];
+    let mut schedule = [170u8; 8200];
+    let n = expected.len();
+    if 8200 < n {
+        return false;
+    }
+    if refused(judge::judge(m, &mut lines, &mut schedule), 7) {
+        return false;
+    }
+    check::same(&schedule[0..n], expected)
+}
+
+// A model is judged with a line store of n bytes and a schedule store of 8,190; one byte less of either is refused by 7.
+pub fn fits(bytes: &[u8], kind: u8, steps: usize, n: usize) -> bool {
+    let reading = record::read(bytes);
+    let m = reading.model;
+    let mut lines = [170u8; 700];
+    let mut schedule = [170u8; 8190];
+    fits_in(m, kind, steps, n, &mut lines, &mut schedule)
+}
+
+// The same, with the stores given.
+fn fits_in(
+    m: Model,
+    kind: u8,
+    steps: usize,
+    n: usize,
+    lines: &mut [u8],
+    schedule: &mut [u8],
+) -> bool {
+    if n == 0 {
+        return false;
+    }
+    if lines.len() < n {
+        return false;
+    }
+    if schedule.len() == 0 {
+        return false;
+    }
+    let short = n - 1;
+    let less = schedule.len() - 1;
+    if !refused(judge::judge(m, &mut lines[0..short], schedule), 7) {
+        return false;
+    }
+    if !refused(judge::judge(m, &mut lines[0..n], &mut schedule[0..less]), 7) {
+        return false;
+    }
+    if !vectors::filled(lines, 170) {
+        return false;
+    }
+    if !vectors::filled(schedule, 170) {
+        return false;
+    }
+    judged(m, kind, steps, &mut lines[0..n], schedule)
+}
+
+// A model is refused with this number, and both stores stay as they were.
+pub fn refuses(m: Model, number: u8) -> bool {
+    let mut lines = [170u8; 700];
+    let mut schedule = [170u8; 8190];
+    if !refused(judge::judge(m, &mut lines, &mut schedule), number) {
+        return false;
+    }
+    if !vectors::filled(&lines, 170) {
+        return false;
+    }
+    vectors::filled(&schedule, 170)
+}
+
+// A thread with another count of rules.
+fn counting(t: Thread, count: usize) -> Thread {
+    let first = t.first;
+    let rules = t.rules;
+    Thread {
+        first: first,
+        count: count,
+        rules: rules,
+    }
+}
+
+// A model with another count of A's rules.
+pub fn with_a(m: Model, count: usize) -> Model {
+    let a = m.a;
+    with(m, counting(a, count), m.b)
+}
+
+// A model with another count of B's rules.
+pub fn with_b(m: Model, count: usize) -> Model {
+    let b = m.b;
+    with(m, m.a, counting(b, count))
+}
+
+// A model with other threads.
+fn with(m: Model, a: Thread, b: Thread) -> Model {
+    let start = m.start;
+    let target = m.target;
+    Model {
+        g: m.g,
+        k: m.k,
+        start: start,
+        target: target,
+        a: a,
+        b: b,
+    }
+}

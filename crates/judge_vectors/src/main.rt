@@ -1,0 +1,98 @@
+// Judges document 01's models, the deepest ones we know and files of random ones, and compares: verdict, steps, line table, and
+// the schedule, which is replayed.
+use vectors::Tally;
+
+mod cases;
+mod deep;
+
+// The model that a record holds is Clear.
+fn clear(bytes: &[u8]) -> bool {
+    cases::agrees(bytes, cases::CLEAR, 0, &[])
+}
+
+// The models of document 01. Without its first rule, Two's thread A has an empty stack after its step.
+fn document() -> Tally {
+    let one = vectors::ONE;
+    let two = vectors::TWO;
+    let once = vectors::TWO_ONCE;
+    let mut t = Tally::new();
+    t = t.counted(cases::agrees(&one, cases::FOUND, 1, &[39]));
+    t = t.counted(cases::writes(&one, &[0, 0]));
+    t = t.counted(cases::agrees(&two, cases::FOUND, 4, &[]));
+    t = t.counted(cases::writes(&two, &[0, 0, 0, 1, 1, 0, 2, 2]));
+    t = t.counted(cases::agrees(&once, cases::CLEAR, 0, &[19, 6, 0]));
+    t = t.counted(clear(&[202, 1, 3, 2, 1, 0, 1, 1, 32, 3, 1, 3, 16, 2, 0]));
+    t = t.counted(clear(&[200, 3, 2, 1, 0, 1, 1, 32, 3, 1, 3, 16, 2, 0]));
+    t = t.counted(clear(&[202, 3, 3, 2, 1, 0, 1, 1, 32, 3, 1, 3, 16, 2, 0]));
+    t.counted(cases::agrees(&[8, 0], cases::FOUND, 0, &[]))
+}
+
+// Stores of just the size needed, and one byte less; models that no record holds: no states at all, and a thread with 65 rules.
+fn limits() -> Tally {
+    let two = vectors::TWO;
+    let once = vectors::TWO_ONCE;
+    let mut t = Tally::new();
+    t = t.counted(cases::fits(&two, cases::FOUND, 4, 43));
+    t = t.counted(cases::fits(&once, cases::CLEAR, 0, 3));
+    t = t.counted(cases::fits(
+        &[202, 3, 3, 2, 1, 0, 1, 1, 32, 3, 1, 3, 16, 2, 0],
+        cases::CLEAR,
+        0,
+        683,
+    ));
+    let mut bytes = [0u8; 131];
+    bytes[0] = 72;
+    bytes[1] = 1;
+    bytes[2] = 64;
+    t = t.counted(clear(&bytes));
+    let reading = record::read(&bytes);
+    let m = reading.model;
+    t = t.counted(cases::refuses(cases::with_a(m, 65), 4));
+    t = t.counted(cases::refuses(cases::with_b(m, 65), 4));
+    let empty = record::read(&[]);
+    t.counted(cases::refuses(empty.model, 3))
+}
+
+// One case of a file after another: a record with its length, its verdict, its steps in two bytes, and the line table with its
+// length.
+fn corpus(s: &[u8]) -> Tally {
+    let mut t = Tally::new();
+    let mut at = 0;
+    while at < s.len() {
+        let model = vectors::part_at(s, at);
+        let start = model.start;
+        let end = model.end;
+        let kind = vectors::byte_at(s, end);
+        let steps = vectors::number_at(s, end + 1);
+        let table = vectors::part_at(s, end + 3);
+        let from = table.start;
+        let to = table.end;
+        t = t.counted(cases::agrees(&s[start..end], kind, steps, &s[from..to]));
+        if to <= at {
+            return t;
+        }
+        at = to;
+    }
+    t
+}
+
+// The cases of a file, which the store has room for.
+fn file(name: &[u8], store: &mut [u8]) {
+    let n = vectors::load(name, store);
+    corpus(&store[0..n]).report(name);
+}
+
+// The files of random models.
+fn files() {
+    let mut store = [0u8; 370000];
+    file(b"verdicts-1.bin", &mut store);
+    file(b"verdicts-2.bin", &mut store);
+}
+
+fn main() {
+    document().report(b"document 01");
+    limits().report(b"stores and counts");
+    deep::doubling().report(b"doubling");
+    deep::deep().report(b"deep nesting");
+    files();
+}

@@ -1,0 +1,74 @@
+-- How long the text can be: a line of a step that a walk makes has at most seven bytes, since its turn is below 6 and its rule
+-- below 64; and a table of 683 bytes has a bit for each line.
+use mathlib.Core.List.{List, [], _∷_, _++_}
+use mathlib.Core.Path.{_≡_}
+use Prim.Native.Nat.{ℕ, zero, suc, _+_, _*_, _≤_, _<_}
+use native.Mathlib.Nat.{pow-le-pow-left}
+use native.Mathlib.Omega.{arith}
+use lib.ListN.{length, length-append}
+use Rattle.model.specs.declared.Model.{Model}
+use Rattle.model.specs.Fits.{Fits}
+use Rattle.model.specs.Lines.{powers}
+use Rattle.model.specs.Runs.{Leads}
+use Rattle.model.specs.Walk.{ThreadId, A, B, ownerOf, threadOf, Config, Step, arrived, stepFrom, walk}
+use Rattle.model.proofs.Inside.{applies-iff}
+use Rattle.model.proofs.Steps.{stepped, through}
+use Rattle.report.specs.Text.{line, stepLine, stepLines, countLine, foundWord}
+use Rattle.report.proofs.Numbers.{digits-1, digits-2, digits-4, length-line}
+
+few-rules : {m : Model} → Fits m → (i : ThreadId) → threadOf i m .count ≤ 64
+few-rules f A = f .a .count
+few-rules f B = f .b .count
+
+-- The line of a step has at most seven bytes ..
+step-short : (s : Step) → s .turn < 10 → s .rule < 100 → length (stepLine s) ≤ 7
+unfolding stepLine
+step-short s h k =
+    simp (length-append, length-line) (omega (arith, digits-1 (s .turn) h, digits-2 (s .rule) k))
+
+-- .. and so have those of a walk.
+walk-short : {m : Model} → Fits m → (ss : List Step) (c : Config) {d : Config} → walk m c ss ≡ arrived d
+    → length (stepLines ss) ≤ 7 * length ss
+unfolding walk stepLines
+walk-short f [] c e = omega arith
+walk-short {m} f (s ∷ ss) c e =
+    let t = through (stepFrom m c s) (λ d. walk m d ss) e in
+    let p = stepped {m = m} {c = c} {s = s} (t .1) in
+    let rule = applies-iff (threadOf (ownerOf (s .turn)) m) (s .rule) (c .shared) (p .top) .0 (p .rule) .listed in
+    let few = few-rules f (ownerOf (s .turn)) in
+    let one = step-short s (omega (arith, p .early, f .k)) (omega arith) in
+    let rest = walk-short f ss (t .0) (t .2) in
+    simp length-append (omega arith)
+
+-- The whole text of a schedule.
+pub found-short : {m : Model} {ss : List Step} {n g : ℕ} → Fits m → Leads m ss g → length ss ≡ n → n ≤ 4095
+    → length (line foundWord n ++ stepLines ss) ≤ 28676
+found-short {m} {ss} {n} f l e h =
+    let steps = walk-short f ss _ (l .walked) in
+    let head = digits-4 n (omega arith) in
+    simp (length-append, length-line) (omega arith)
+
+-- The line of a length.
+pub count-short : (n c : ℕ) → n < 10 → c ≤ 4096 → length (countLine n c) ≤ 7
+unfolding countLine
+count-short n c h k = simp (length-append, length-line) (omega (arith, digits-1 n h, digits-4 c (omega arith)))
+
+-- Up to six states below 4 give 5,460 lines.
+powers-four : (n : ℕ) → n ≤ 6 → powers 4 n ≤ 5460
+unfolding powers
+powers-four zero h = omega arith
+powers-four (suc zero) h = omega arith
+powers-four (suc (suc zero)) h = omega arith
+powers-four (suc (suc (suc zero))) h = omega arith
+powers-four (suc (suc (suc (suc zero)))) h = omega arith
+powers-four (suc (suc (suc (suc (suc zero))))) h = omega arith
+powers-four (suc (suc (suc (suc (suc (suc zero)))))) h = omega arith
+powers-four (suc (suc (suc (suc (suc (suc (suc n))))))) h = absurd (omega arith)
+
+powers-left : (g n : ℕ) → g ≤ 4 → powers g n ≤ powers 4 n
+unfolding powers
+powers-left g zero h = omega arith
+powers-left g (suc n) h = omega (arith, powers-left g n h, pow-le-pow-left h (suc n))
+
+pub powers-low : (g n : ℕ) → g ≤ 4 → n ≤ 6 → powers g n ≤ 5460
+powers-low g n h k = omega (arith, powers-left g n h, powers-four n k)

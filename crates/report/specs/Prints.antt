@@ -1,0 +1,72 @@
+-- What is printed for the bytes of a record.
+use mathlib.Core.Bool.{Bool}
+use mathlib.Core.List.{List, _++_}
+use mathlib.Core.Logic.{_↔_}
+use mathlib.Core.Path.{_≡_}
+use Prim.Native.Nat.{ℕ, _*_, _^_, _≤_, _<_}
+use lib.Dec.{T}
+use lib.ListN.{length, drop}
+use Rattle.model.specs.declared.Model.{Model}
+use Rattle.model.specs.Lines.{digits}
+use Rattle.model.specs.Runs.{Reaches, Marked}
+use Rattle.model.specs.Verdict.{Verdict, clear, long, found, Judged}
+use Rattle.model.specs.Valid.{Valid}
+use Rattle.model.specs.Walk.{Step}
+use Rattle.record.specs.Reader.{Read, refused, value, readOf}
+use Rattle.report.specs.Text.{line, refusedWord, foundWord, clearLine, longLine, stepLines, countLines}
+
+-- A set of lines, by their lengths and values, is that of a model's marked lines.
+abbrev pub Marks : Model → (ℕ → ℕ → Bool) → Type 0
+Marks m has =
+    (n v : ℕ) → 1 ≤ n → n ≤ 2 * m .k → v < m .g ^ n → T (has n v) ↔ Marked m (digits (m .g) n v)
+
+-- The text of Clear: `clear`, and for each length from 1 to 2K how many lines of that length are marked.
+pub record Counts (m : Model) (text : List ℕ) : Type 0 where
+  pub has : ℕ → ℕ → Bool
+  pub marks : Marks m has
+  pub same : text ≡ clearLine ++ countLines (m .g) has (2 * m .k)
+
+-- The text of Found: `found`, the number of steps, and the lines of some schedule of so many steps that reaches the target.
+pub record Lists (m : Model) (n : ℕ) (text : List ℕ) : Type 0 where
+  pub steps : List Step
+  pub reaches : Reaches m steps
+  pub count : length steps ≡ n
+  pub same : text ≡ line foundWord n ++ stepLines steps
+
+-- The text of a verdict on a model.
+abbrev pub Tells : Model → Verdict → List ℕ → Type 0
+Tells m clear text = Counts m text
+Tells m long text = text ≡ longLine
+Tells m (found n) text = Lists m n text
+
+-- A verdict that is true of the model, and its text.
+pub record Judges (m : Model) (text : List ℕ) : Type 0 where
+  pub verdict : Verdict
+  pub judged : Judged m verdict
+  pub tells : Tells m verdict text
+
+-- The text for what reading comes to: the number of the refusal, or the verdict on the model.
+abbrev pub Answers : Read Model → List ℕ → Type 0
+Answers (refused n) text = text ≡ line refusedWord n
+Answers (value m rest) text = Judges m text
+
+-- The text for the bytes of a record.
+abbrev pub Prints : List ℕ → List ℕ → Type 0
+Prints bytes text = Answers (readOf bytes) text
+
+-- A store whose first r bytes are a text of this kind; the bytes beyond are as they were.
+pub record Holds (Kind : List ℕ → Type 0) (r : ℕ) (old new : List ℕ) : Type 0 where
+  pub text : List ℕ
+  pub kind : Kind text
+  pub size : r ≡ length text
+  pub room : r ≤ length new
+  pub stored : new ≡ text ++ drop r old
+
+-- Room for the longest text: `found 4095` and 4,095 lines of seven bytes.
+pub record Room (text : List ℕ) : Type 0 where
+  pub room : 28676 ≤ length text
+
+-- A valid model, and room for its text.
+pub record Asks (m : Model) (text : List ℕ) : Type 0 where
+  pub valid : Valid m
+  pub room : Room text

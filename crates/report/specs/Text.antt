@@ -1,0 +1,64 @@
+-- The text that is printed, byte by byte, in ASCII.
+use mathlib.Core.Bool.{Bool, cond}
+use mathlib.Core.List.{List, [], _∷_, _++_}
+use Prim.Native.Nat.{ℕ, zero, suc, _+_, _/_, _%_, _^_}
+use lib.Dec.{ltb}
+use Rattle.model.specs.Walk.{ThreadId, A, B, ownerOf, Step}
+
+-- A number in base ten without leading zeros, where it has no more digits than `places`.
+unfoldable pub decimalIn : ℕ → ℕ → List ℕ
+decimalIn zero n = []
+decimalIn (suc places) n = cond (ltb n 10) ((48 + n) ∷ []) (decimalIn places (n / 10) ++ ((48 + n % 10) ∷ []))
+
+-- A number in base ten without leading zeros; it has no more than n + 1 digits.
+abbrev pub decimal : ℕ → List ℕ
+decimal n = decimalIn (suc n) n
+
+-- A line that ends with a number: a word in front of it, and byte 0A behind it.
+unfoldable pub line : List ℕ → ℕ → List ℕ
+line word n = word ++ decimal n ++ (10 ∷ [])
+
+-- `refused` and a space.
+abbrev pub refusedWord : List ℕ
+refusedWord = 114 ∷ 101 ∷ 102 ∷ 117 ∷ 115 ∷ 101 ∷ 100 ∷ 32 ∷ []
+
+-- `found` and a space.
+abbrev pub foundWord : List ℕ
+foundWord = 102 ∷ 111 ∷ 117 ∷ 110 ∷ 100 ∷ 32 ∷ []
+
+-- The line `clear`.
+abbrev pub clearLine : List ℕ
+clearLine = 99 ∷ 108 ∷ 101 ∷ 97 ∷ 114 ∷ 10 ∷ []
+
+-- The line `long`.
+abbrev pub longLine : List ℕ
+longLine = 108 ∷ 111 ∷ 110 ∷ 103 ∷ 10 ∷ []
+
+-- The letter of a thread.
+abbrev pub letter : ThreadId → ℕ
+letter A = 65
+letter B = 66
+
+-- The line of a step: its turn, the letter of that turn's thread and the rule's number, with a space between them.
+unfoldable pub stepLine : Step → List ℕ
+stepLine s = decimal (s .turn) ++ line (32 ∷ letter (ownerOf (s .turn)) ∷ 32 ∷ []) (s .rule)
+
+-- The lines of the steps of a schedule.
+unfoldable pub stepLines : List Step → List ℕ
+stepLines [] = []
+stepLines (s ∷ ss) = stepLine s ++ stepLines ss
+
+-- How many of the numbers below n are in a set.
+unfoldable pub countOf : (ℕ → Bool) → ℕ → ℕ
+countOf has zero = 0
+countOf has (suc n) = countOf has n + cond (has n) 1 0
+
+-- The line of a length: the length, a space, and a number of lines.
+unfoldable pub countLine : ℕ → ℕ → List ℕ
+countLine n count = decimal n ++ line (32 ∷ []) count
+
+-- For each length from 1 to n, how many of its lines are in a set; `has n v` says it of the line of n states whose value is v,
+-- and there are gⁿ of them.
+unfoldable pub countLines : ℕ → (ℕ → ℕ → Bool) → ℕ → List ℕ
+countLines g has zero = []
+countLines g has (suc n) = countLines g has n ++ countLine (suc n) (countOf (has (suc n)) (g ^ suc n))

@@ -1,0 +1,40 @@
+// What is printed for a record: the verdict on its model, or the refusal. The text is defined in specs/.
+ghost use Rattle.report.specs.Prints.{Judges, Prints, Holds, Room, Asks};
+use judge::Judgement;
+use model::Model;
+use record::Answer;
+
+mod lines;
+mod text;
+
+// Puts the text for the bytes of a record at the front of a store, and answers how many bytes it has.
+pub fn report(bytes: &[u8], store: &mut [u8]) -> usize
+    requires { ⌜ Room (now store) ⌝ }
+    ensures { λ r. ⌜ Holds (Prints (now (bytes .entry))) r (now (store .entry)) (now (store .exit)) ⌝ }
+{
+    let reading = record::read(bytes);
+    let answer = reading.answer;
+    match answer {
+        Answer::Accepted => judged(reading.model, store),
+        Answer::Refused(n) => text::put_line(store, 0, b"refused ", n as u64),
+    }
+}
+
+// The text of the verdict on a model.
+fn judged(m: Model, store: &mut [u8]) -> usize
+    requires { ⌜ Asks m (now store) ⌝ }
+    ensures { λ r. ⌜ Holds (Judges m) r (now (store .entry)) (now (store .exit)) ⌝ }
+{
+    let mut table = [0u8; 683];
+    let mut schedule = [0u8; 8190];
+    match judge::judge(m, &mut table, &mut schedule) {
+        Judgement::Clear => lines::put_clear(store, m.g, m.k, &table),
+        Judgement::Long => text::put(store, 0, b"long\n"),
+        Judgement::Found(n) => {
+            let end = 2 * n as usize;
+            lines::put_found(store, n, &schedule[0..end])
+        }
+        // No valid model is refused where the stores have room.
+        Judgement::Refused(n) => n as usize,
+    }
+}

@@ -1,0 +1,123 @@
+// The lines below a verdict: the steps of a schedule, and how many lines of each length are marked.
+ghost use mathlib.Core.Bool.{cond};
+ghost use mathlib.Core.List.{_++_};
+ghost use mathlib.Core.Path.{_≡_};
+ghost use Prim.Native.Nat.{_+_, _*_, _/_, _%_, _^_, _≤_, _<_};
+ghost use lib.Dec.{eqb};
+ghost use lib.ListN.{length};
+ghost use Rattle.reach.specs.Bits.{bitAt};
+ghost use Rattle.record.specs.Put.{Put};
+ghost use Rattle.replay.specs.Replay.{stepsOf};
+ghost use Rattle.report.specs.Table.{Fills, standing};
+ghost use Rattle.report.specs.Text.{line, foundWord, clearLine, stepLine, stepLines, countOf, countLine, countLines};
+use crate::text;
+use reach::parts;
+
+// Puts `found`, the number of steps, and a line for each step of a schedule.
+pub fn put_found(store: &mut [u8], n: u64, schedule: &[u8]) -> usize
+    requires { ⌜ length (line foundWord n ++ stepLines (stepsOf (now schedule))) ≤ length (now store) ⌝ }
+    ensures { λ r. ⌜ Put (now (store .entry)) (now (store .exit)) 0 r
+        (line foundWord n ++ stepLines (stepsOf (now (schedule .entry)))) ⌝ }
+{
+    let at = text::put_line(store, 0, b"found ", n);
+    put_steps(store, at, schedule)
+}
+
+// Puts a line for each step of a schedule.
+fn put_steps(store: &mut [u8], at: usize, schedule: &[u8]) -> usize
+    requires { ⌜ at + length (stepLines (stepsOf (now schedule))) ≤ length (now store) ⌝ }
+    ensures { λ r. ⌜ Put (now (store .entry)) (now (store .exit)) at r (stepLines (stepsOf (now (schedule .entry)))) ⌝ }
+{
+    let n = schedule.len() / 2;
+    let mut next = at;
+    let mut i = 0;
+    while i < n {
+        let turn = schedule[2 * i];
+        let rule = schedule[2 * i + 1];
+        next = put_step(store, next, turn, rule);
+        i += 1;
+    }
+    next
+}
+
+// Puts the line of a step.
+fn put_step(store: &mut [u8], at: usize, turn: u8, rule: u8) -> usize
+    requires { ⌜ at + length (stepLine (record { turn = turn; rule = rule })) ≤ length (now store) ⌝ }
+    ensures { λ r. ⌜ Put (now (store .entry)) (now (store .exit)) at r (stepLine (record { turn = turn; rule = rule })) ⌝ }
+{
+    let next = text::put_number(store, at, turn as u64);
+    if turn % 2 == 0 {
+        text::put_line(store, next, b" A ", rule as u64)
+    } else {
+        text::put_line(store, next, b" B ", rule as u64)
+    }
+}
+
+// Puts `clear`, and for each length how many of its lines are marked in a line table.
+pub fn put_clear(store: &mut [u8], g: u8, k: u8, table: &[u8]) -> usize
+    requires { ⌜ Fills g (2 * k) (now table) ⌝ ∗ ⌜ 48 ≤ length (now store) ⌝ }
+    ensures text { λ r. ⌜ Put (now (store .entry)) (now (store .exit)) 0 r
+        (clearLine ++ countLines g (standing g (now (table .entry))) (2 * k)) ⌝ }
+    ensures low { λ r. ⌜ r ≤ 48 ⌝ }
+{
+    let at = text::put(store, 0, b"clear\n");
+    put_counts(store, at, g as usize, 2 * k as usize, table)
+}
+
+// Puts a line for each length up to the longest.
+fn put_counts(store: &mut [u8], at: usize, g: usize, longest: usize, table: &[u8]) -> usize
+    requires { ⌜ Fills g longest (now table) ⌝ ∗ ⌜ at + 7 * longest ≤ length (now store) ⌝ }
+    ensures text { λ r. ⌜ Put (now (store .entry)) (now (store .exit)) at r
+        (countLines g (standing g (now (table .entry))) longest) ⌝ }
+    ensures low { λ r. ⌜ r ≤ at + 7 * longest ⌝ }
+{
+    let mut next = at;
+    let mut from = 0;
+    let mut n = 0;
+    while n < longest {
+        n += 1;
+        let lines = parts::power(g, n);
+        let marked = count(table, from, lines);
+        next = put_count(store, next, n, marked);
+        from += lines;
+    }
+    next
+}
+
+// Puts the line of a length.
+fn put_count(store: &mut [u8], at: usize, n: usize, marked: usize) -> usize
+    requires { ⌜ at + length (countLine n marked) ≤ length (now store) ⌝ }
+    ensures { λ r. ⌜ Put (now (store .entry)) (now (store .exit)) at r (countLine n marked) ⌝ }
+{
+    let next = text::put_number(store, at, n as u64);
+    text::put_line(store, next, b" ", marked as u64)
+}
+
+// How many bits of a line table stand, of n from a place on.
+fn count(table: &[u8], from: usize, n: usize) -> usize
+    requires { ⌜ (from + n ≤ 5460) × (5460 ≤ 8 * length (now table)) ⌝ }
+    ensures { λ r. ⌜ (r ≡ countOf (λ v. bitAt (now (table .entry)) (from + v)) n) × (r ≤ n) ⌝ }
+{
+    let mut r = 0;
+    let mut v = 0;
+    while v < n {
+        let p = from + v;
+        r += bit(table[p / 8], p % 8);
+        v += 1;
+    }
+    r
+}
+
+// Bit i of a byte, the lowest being bit 0.
+fn bit(byte: u8, i: usize) -> usize
+    requires { ⌜ i < 8 ⌝ }
+    ensures { λ r. ⌜ (r ≡ cond (eqb (byte / 2 ^ i % 2) 1) 1 0) × (r ≤ 1) ⌝ }
+{
+    let mut rest = byte as usize;
+    let mut j = 0;
+    while j < i {
+        rest /= 2;
+        j += 1;
+    }
+    rest % 2
+}

@@ -1,0 +1,36 @@
+-- The table has a place for wherever moves and turn ends lead: a rule in range leads to a state below G, and a turn end of a
+-- line of such states too.
+use Prim.Native.Nat.{ℕ, _≤_}
+use native.Mathlib.Omega.{arith}
+use Rattle.model.specs.declared.Right.{Right}
+use Rattle.model.specs.declared.Right.the-variants.{Remove, Swap, Push}
+use Rattle.model.specs.declared.Thread.{Thread}
+use Rattle.model.specs.Walk.{Step}
+use Rattle.model.proofs.Inside.{applies-iff}
+use Rattle.model.specs.Fits.{RightFits, ThreadFits}
+use Rattle.summary.specs.Control.{Control, TurnEnd, Moves, Switches, InTable, Inside}
+use Rattle.summary.proofs.Tables.{Symbols, Ranged}
+
+-- The symbols that the table has places for; 16 is the floor.
+abbrev pub Sym : ℕ → Type 0
+Sym γ = γ ≤ 16
+
+-- Moves and turn ends lead from controls and symbols of the table to such.
+pub ranged : {t : Thread} {G n : ℕ} (turnOf : ℕ → ℕ) {ends : ℕ → TurnEnd} → ThreadFits G t → Inside G n ends
+    → Ranged (Moves t turnOf) (Switches ends n) (InTable G n) Sym
+ranged {t} {G} {n} turnOf {ends} fits inside =
+    record {
+      moves = λ {c} {c₁} {γ} {s} {x} p m. moves p m;
+      switches = λ {c} {c₁} p s. (omega (arith, s .more, s .passed), rw (s .enter) (inside (c .passed) (s .more) .1));
+    }
+  where
+    low : (x : Right) → RightFits x → Symbols Sym x
+    low Remove f = tt
+    low (Swap a) f = omega arith
+    low (Push a b) f = (omega arith, omega arith)
+
+    moves : {c c₁ : Control} {γ : ℕ} {s : Step} {x : Right} → InTable G n c → Moves t turnOf c γ s x c₁
+        → InTable G n c₁ × Symbols Sym x
+    moves {c} {c₁} {γ} {s} {x} p m =
+        let r = fits .rules (s .rule) (applies-iff t (s .rule) (c .shared) γ .0 (m .rule) .listed) in
+        ((omega (arith, m .passed), rw (m .shared) (r .next)), low x (rw (m .right) at (r .symbols)))

@@ -1,0 +1,10 @@
+pub mod Firsts
+pub mod Heads
+pub mod Merging
+pub mod Plans
+pub mod Sayings
+pub mod Sides
+pub mod Stored
+pub mod Threads
+pub mod Whole
+pub mod Writers

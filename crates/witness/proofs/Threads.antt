@@ -1,0 +1,165 @@
+-- One thread's steps along a line are those of the pair of its first symbol and the floor: the least steps of its runs are
+-- the least over the ways to write that pair, so one way has just that many; and what is written for it is a run.
+use mathlib.Core.List.{List, [], _∷_, _++_, append-nil}
+use mathlib.Core.Logic.{⊎-elim}
+use mathlib.Core.Path.{_≡_, refl, sym, ap, subst, _∙_}
+use Prim.Native.Nat.{ℕ, suc, _+_, _*_, _≤_, _<_}
+use native.Mathlib.Nat.{le-refl}
+use native.Mathlib.Omega.{arith}
+use lib.ListN.{length, getD}
+use Rattle.model.specs.declared.Thread.{Thread}
+use Rattle.model.specs.Fits.{ThreadFits}
+use Rattle.model.specs.Lines.{States, digits}
+use Rattle.model.specs.Walk.{ThreadId, Step}
+use Rattle.reach.specs.Cost.{control, through, pairCost, Least, RunAlong, LeastAlong}
+use Rattle.reach.specs.Ends.{turnOf, endsOf, firstState, lastState}
+use Rattle.reach.proofs.Along.{ends-inside}
+use Rattle.reach.proofs.Values.{full-count}
+use Rattle.reach.proofs.Pairs.{turns-made, idle, pair-cost}
+use Rattle.summary.specs.Control.{Control, TurnEnd, Moves, Switches, entry, Inside}
+use Rattle.summary.specs.Edges.{bestOf}
+use Rattle.summary.specs.Stretch.{pop, stay, Path}
+use Rattle.summary.proofs.Floors.{unfloored}
+use Rattle.summary.proofs.Overs.{pops, stays}
+use Rattle.summary.proofs.Relaxing.{better}
+use Rattle.witness.specs.declared.goal.Goal.{Goal}
+use Rattle.witness.specs.Goals.{from, Starts, Ready, Splits, Spelled, Stands, Pairs}
+use Rattle.witness.specs.Plan.{statesIn, endsIn, Setting, Known}
+use Rattle.witness.proofs.Firsts.{entry-same, gone}
+use Rattle.witness.proofs.Writers.{spelled-as}
+
+-- A run looks at no turn end but the first n.
+path-ends : {t : Thread} {turn : ℕ → ℕ} {e f : ℕ → TurnEnd} {n : ℕ} → ((j : ℕ) → j < n → e j ≡ f j)
+    → {c d : Control} {w : List ℕ} {ss : List Step}
+    → Path (Moves t turn) (Switches e n) c w ss d → Path (Moves t turn) (Switches f n) c w ss d
+path-ends h Path.stop = Path.stop
+path-ends h (Path.move m p) = Path.move m (path-ends h p)
+path-ends h (Path.change {c = c} s p) =
+    let k = h (c .passed) (s .more) in
+    Path.change
+    (record {
+      more = s .more;
+      leave = s .leave ∙ ap (λ (x : TurnEnd). x .leave) k;
+      enter = s .enter ∙ ap (λ (x : TurnEnd). x .enter) k;
+      passed = s .passed;
+    })
+    (path-ends h p)
+
+-- Two counts that are least for the same runs are equal where one is exact.
+least-once : {S : Type 0} {P Q : List S → Type 0} {x y : ℕ} → ((ss : List S) → P ss → Q ss) → ((ss : List S) → Q ss → P ss)
+    → Least P x → Least Q y → x ≤ 4095 → y ≡ x
+least-once f g p q h =
+    let u = p .some (omega arith) in
+    let l = q .least (f (u .0) (u .1)) in
+    let v = q .some (l .0) in
+    let k = p .least (g (v .0) (v .1)) in
+    omega (arith, u .2, l .1, v .2, k .1)
+
+module _ {t : Thread} {i : ThreadId} {G n : ℕ} {line tab plan : List ℕ} (K : Known t i G n line tab plan) (two : n ≤ 2)
+    (fits : ThreadFits G t) (size : length line ≡ 2 * suc n) (states : States G line) where
+  -- The plan's turn ends are the line's, so states below G.
+  pub inside : Inside (statesIn plan) n (endsIn plan)
+  inside j h =
+      let k = ends-inside i n line size states j h in
+      let a : endsIn plan j .leave ≡ endsOf i line j .leave = ap (λ (x : TurnEnd). x .leave) (K .ends j h) in
+      let b : endsIn plan j .enter ≡ endsOf i line j .enter = ap (λ (x : TurnEnd). x .enter) (K .ends j h) in
+      (omega (arith, k .0, K .states), omega (arith, k .1, K .states))
+
+  -- The setting of the writers.
+  abbrev pub setting : Setting tab plan
+  setting =
+      record {
+        thread = t;
+        id = i;
+        n = n;
+        two = two;
+        four = K .range .states;
+        fits = rw (K .states) fits;
+        inside = inside;
+        planned = K .planned;
+        summed = rw (K .states) (K .summed (rw (K .states) at inside));
+      }
+
+  module _ (g : ℕ) (first : firstState i g line < G) (last : lastState i n line < G) where
+    -- The goal of the whole thread.
+    abbrev pub whole : Goal
+    whole = record { passed = 0; shared = firstState i g line; symbol = t .first .0; until = n; dest = 4 + lastState i n line }
+
+    -- Where it starts and ends.
+    abbrev c : Control
+    c = control 0 (firstState i g line)
+
+    abbrev d : Control
+    d = control n (lastState i n line)
+
+    pub stands : Stands setting whole (stay (control n (lastState i n line)))
+    stands =
+        record {
+          start = (omega arith, rw (K .states) first);
+          stop = (le-refl n, rw (K .states) last);
+          until = refl;
+          dest = refl;
+        }
+
+    pub ready : Ready tab plan whole
+    ready =
+        record {
+          table = K .size;
+          range = K .range;
+          goal =
+              record {
+                passed = omega arith;
+                shared = omega (arith, K .range .states, K .states);
+                symbol = omega (arith, fits .first);
+                until = two;
+                dest = omega (arith, K .range .states, K .states);
+              };
+        }
+
+    -- Each candidate of the least is a way to write the pair ..
+    step : (j s old : ℕ) → j ≤ n → s < statesIn plan → (old ≤ 4095 → Splits tab plan whole 16 old)
+        → through (endsIn plan) tab c (t .first .0) d (control j s) old ≤ 4095
+        → Splits tab plan whole 16 (through (endsIn plan) tab c (t .first .0) d (control j s) old)
+    step j s old b l r =
+        which (entry (endsIn plan) tab c (t .first .0) (pop (control j s))) (entry (endsIn plan) tab (control j s) 16 (stay d)) refl refl
+      where
+        which : (x y : ℕ) → entry (endsIn plan) tab c (t .first .0) (pop (control j s)) ≡ x
+            → entry (endsIn plan) tab (control j s) 16 (stay d) ≡ y → bestOf 0 x y old ≤ 4095
+            → Splits tab plan whole 16 (bestOf 0 x y old)
+        which x y p q h =
+            ⊎-elim (λ e. rw e (r (rw e at h)))
+            (λ e. gone setting {d = stay d} {q = control j s} 16 (bestOf 0 x y old) stands (b, l) (omega (arith, p, q, e .2)))
+            (better 0 x y old .which)
+
+    -- .. so there is one in just as many steps as the line's least.
+    pub splits : {count : ℕ} → count ≤ 4095 → LeastAlong t i n g line count → Splits tab plan whole 16 count
+    splits {count} h least =
+        let cost = pair-cost (setting .fits) inside (setting .summed) (turnOf i) c (t .first .0) d (stands .start) (fits .first) (stands .stop) in
+        let same : pairCost (endsIn plan) tab (statesIn plan) n c (t .first .0) d ≡ count =
+        least-once (λ ss p. path-ends (λ j l. sym (K .ends j l)) p) (λ ss p. path-ends (K .ends) p) least cost h in
+        subst (λ v. Splits tab plan whole 16 v) same
+        (turns-made (endsIn plan) tab c (t .first .0) d (statesIn plan) n (λ (v : ℕ). v ≤ 4095 → Splits tab plan whole 16 v) step
+        (λ l. Splits.above (omega arith) (entry-same setting stands)) (suc n) (le-refl (suc n)) (omega arith))
+
+    -- What is written for the pair is a run of the thread along the line.
+    run : {us : List Step} → Pairs setting (from whole) (t .first .0) 16 (stay (control n (lastState i n line))) us
+        → RunAlong t i n g line us
+    run (Pairs.above p) = path-ends (K .ends) (rw append-nil at (stays _ _ {w = []} (p [])))
+    run (Pairs.both xs ys p q) =
+        path-ends (K .ends)
+        (rw append-nil at (unfloored _ _ 16 (idle (setting .fits) inside (setting .summed) (turnOf i)) (pops _ _ (p (ys ++ [])) (stays _ _ (q [])))
+        (t .first .0 ∷ []) refl))
+
+    pub written : {count : ℕ} {old new : List ℕ}
+        → Spelled (Pairs setting (from whole) (t .first .0) 16 (stay (control n (lastState i n line)))) count 0 old new
+        → Spelled (RunAlong t i n g line) count 0 old new
+    written r = spelled-as (λ us p. run p) r
+
+-- The goal of a whole thread, from the parts of its line.
+pub starts : (i : ThreadId) (n g G v top : ℕ) {s turn e : ℕ} → s ≡ firstState i g (digits G (2 * n + 2) v) → s < G
+    → turn ≡ turnOf i n → e ≡ getD (digits G (2 * n + 2) v) turn 0 → e < G
+    → Starts i n g (digits G (2 * suc n) v) top G (record { passed = 0; shared = s; symbol = top; until = n; dest = 4 + e })
+starts i n g G v top {s} {turn} {e} a l f b k =
+    let p : s ≡ firstState i g (digits G (2 * suc n) v) = rw (full-count n) at a in
+    let q : e ≡ lastState i n (digits G (2 * suc n) v) = rw (f, full-count n) at b in
+    record { goal = rw (p, q); first = rw (← p) l; last = rw (← q) k }

@@ -1,0 +1,49 @@
+-- `start_goal` meets its contract: the line's states are read off its value.
+use native.Mathlib.Omega.{arith}
+use borrow.Author.Needs.{needs}
+use Rattle.reach.specs.Cost.{idOf}
+use Rattle.reach.proofs.Values.{full-value}
+use Rattle.witness.proofs.Threads.{starts}
+use Rattle.witness.proofs.steps.start_goal.Statement.{statement}
+use Rattle.witness.proofs.steps.start_goal.Tie as tie
+
+mul-len : tie.Need-mul-len
+mul-len c = search needs
+
+add-len : tie.Need-add-len
+add-len c = search needs
+
+first-state-requires : tie.Need-first-state-requires
+first-state-requires c κs =
+    let s = c in
+    (s .pre .0, s .pre .1, omega (arith, s .pre .2), full-value (s .args .g) _ (s .pre .4), s .pre .3)
+
+turn-of-requires : tie.Need-turn-of-requires
+turn-of-requires c κs = search needs
+
+state-at-requires : tie.Need-state-at-requires
+state-at-requires c κs =
+    let s = c .before .before in
+    (s .pre .0, s .pre .1, omega (arith, s .pre .2), full-value (s .args .g) _ (s .pre .4))
+
+add-t10 : tie.Need-add-t10
+add-t10 c = search needs
+
+returns : tie.Need-returns
+returns c =
+    let a = c .before .before .before .args in
+    starts (idOf (a .other)) (a .n) (a .start) (a .g) (a .v) (a .top) (c .before .before .first-state .ensures .0)
+    (c .before .before .first-state .ensures .1) (c .before .turn-of .ensures .0) (c .state-at .ensures .0)
+    (c .state-at .ensures .1)
+
+pub start-goal-spec : {M : Type 1} → statement M
+start-goal-spec =
+    tie.close
+    (tie.spec
+    mul-len
+    add-len
+    first-state-requires
+    turn-of-requires
+    state-at-requires
+    add-t10
+    returns)

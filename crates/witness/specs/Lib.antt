@@ -1,0 +1,4 @@
+pub mod Goals
+pub mod Merge
+pub mod Plan
+pub mod Written

@@ -1,0 +1,113 @@
+-- A plan: what the writers need of a thread and of its line, as bytes. They are called thousands of levels deep, and a thread
+-- by value at each level would not fit the stack.
+use mathlib.Core.Bool.{cond}
+use mathlib.Core.List.{List, [], _∷_}
+use mathlib.Core.Path.{_≡_}
+use Prim.Native.Nat.{ℕ, _+_, _*_, _≤_, _<_}
+use lib.Dec.{eqb}
+use lib.ListN.{length, getD}
+use Rattle.model.specs.declared.Right.{Right}
+use Rattle.model.specs.declared.Right.the-variants.{Remove, Swap, Push}
+use Rattle.model.specs.declared.Rule.{Rule}
+use Rattle.model.specs.declared.Thread.{Thread}
+use Rattle.model.specs.Fits.{RuleFits, ThreadFits}
+use Rattle.model.specs.Rules.{ruleAt}
+use Rattle.model.specs.Walk.{ThreadId}
+use Rattle.reach.specs.Ends.{turnOf, endsOf}
+use Rattle.summary.specs.Cells.{size}
+use Rattle.summary.specs.Control.{TurnEnd, Inside, Summed}
+
+-- How many bytes a plan has: eight, and six for each of 64 rules.
+abbrev pub planSize : ℕ
+planSize = 392
+
+-- Byte 0 is the number of shared states, byte 6 that of the thread's rules.
+abbrev pub statesIn : List ℕ → ℕ
+statesIn plan = getD plan 0 0
+
+abbrev pub rulesIn : List ℕ → ℕ
+rulesIn plan = getD plan 6 0
+
+-- The number of the thread's own turn j; byte 1 is that of its first.
+abbrev pub turnIn : List ℕ → ℕ → ℕ
+turnIn plan j = 2 * j + getD plan 1 0
+
+-- The turn end after the thread's own turn j, 0 or 1: bytes 2 and 3, or 4 and 5.
+abbrev pub endsIn : List ℕ → ℕ → TurnEnd
+endsIn plan j = record { leave = getD plan (2 + 2 * j) 0; enter = getD plan (3 + 2 * j) 0 }
+
+-- A right side from its number of symbols and the symbols.
+unfoldable pub rightIn : ℕ → ℕ → ℕ → Right
+rightIn kind a b = cond (eqb kind 0) Remove (cond (eqb kind 1) (Swap (record { 0 = a })) (Push (record { 0 = a }) (record { 0 = b })))
+
+-- The rule that stands in six bytes.
+unfoldable pub ruleFrom : List ℕ → ℕ → Rule
+ruleFrom plan at =
+    record {
+      before = record { 0 = getD plan at 0 };
+      symbol = record { 0 = getD plan (at + 1) 0 };
+      after = record { 0 = getD plan (at + 2) 0 };
+      right = rightIn (getD plan (at + 3) 0) (getD plan (at + 4) 0) (getD plan (at + 5) 0);
+    }
+
+-- The three bytes of a right side: its number of symbols, and the symbols.
+unfoldable pub rightBytes : Right → List ℕ
+rightBytes Remove = 0 ∷ 0 ∷ 0 ∷ []
+rightBytes (Swap a) = 1 ∷ a .0 ∷ 0 ∷ []
+rightBytes (Push a b) = 2 ∷ a .0 ∷ b .0 ∷ []
+
+-- The six bytes of a rule.
+abbrev pub ruleBytes : Rule → List ℕ
+ruleBytes r = r .before .0 ∷ r .symbol .0 ∷ r .after .0 ∷ rightBytes (r .right)
+
+-- Rule number r.
+abbrev pub ruleIn : List ℕ → ℕ → Rule
+ruleIn plan r = ruleFrom plan (8 + 6 * r)
+
+-- The first seven bytes of a plan: G, the thread's first turn, its first two turn ends along a line, and its rule count.
+abbrev pub headBytes : ThreadId → ℕ → List ℕ → ℕ → List ℕ
+headBytes i g line count =
+    g
+    ∷ turnOf i 0
+    ∷ endsOf i line 0 .leave
+    ∷ endsOf i line 0 .enter
+    ∷ endsOf i line 1 .leave
+    ∷ endsOf i line 1 .enter
+    ∷ count
+    ∷ []
+
+-- The numbers of a plan are in range.
+pub record InRange (plan : List ℕ) : Type 0 where
+  pub size : length plan ≡ planSize
+  pub states : statesIn plan ≤ 4
+  pub turn : getD plan 1 0 ≤ 1
+  pub ends : (j : ℕ) → j < 2 → (endsIn plan j .leave < 4) × (endsIn plan j .enter < 4)
+  pub count : rulesIn plan ≤ 64
+  pub rules : (r : ℕ) → r < rulesIn plan → RuleFits 4 (ruleIn plan r)
+
+-- A plan of a thread: its turns and its rules.
+pub record Planned (t : Thread) (i : ThreadId) (plan : List ℕ) : Type 0 where
+  pub turn : getD plan 1 0 ≡ turnOf i 0
+  pub count : rulesIn plan ≡ t .count
+  pub rules : (r : ℕ) → r < t .count → ruleIn plan r ≡ ruleAt t r
+
+-- The setting of the writers: a thread in range, n turn ends of a line, and the plan and the solved table for them.
+pub record Setting (tab plan : List ℕ) : Type 0 where
+  pub thread : Thread
+  pub id : ThreadId
+  pub n : ℕ
+  pub two : n ≤ 2
+  pub four : statesIn plan ≤ 4
+  pub fits : ThreadFits (statesIn plan) thread
+  pub inside : Inside (statesIn plan) n (endsIn plan)
+  pub planned : Planned thread id plan
+  pub summed : Summed thread (statesIn plan) n (endsIn plan) tab
+
+-- The plan of a thread along a full line with n turn ends, and the table that is solved for them.
+pub record Known (t : Thread) (i : ThreadId) (G n : ℕ) (line tab plan : List ℕ) : Type 0 where
+  pub size : length tab ≡ size
+  pub range : InRange plan
+  pub planned : Planned t i plan
+  pub states : statesIn plan ≡ G
+  pub ends : (j : ℕ) → j < n → endsIn plan j ≡ endsOf i line j
+  pub summed : Inside G n (endsIn plan) → Summed t G n (endsIn plan) tab

@@ -1,0 +1,69 @@
+// What the writers are asked for: a stretch (summary) from a control with a symbol on top to a destination.
+ghost use mathlib.Core.Path.{_≡_};
+ghost use Prim.Native.Nat.{_≤_, _<_};
+ghost use Rattle.witness.specs.Goals.{movedTo, entered, goneAt, restAt};
+
+// From `passed` turn ends of the thread and state `shared`, with `symbol` on top, to `until` turn ends and a destination:
+// 0 to 3 is gone at a state, 4 to 7 still there.
+pub struct Goal {
+    pub passed: usize,
+    pub shared: usize,
+    pub symbol: usize,
+    pub until: usize,
+    pub dest: usize,
+}
+
+impl Goal {
+    // After a step to state h with symbol a on top.
+    pub fn moved(self, h: usize, a: usize) -> Goal
+        ensures { λ r. ⌜ r ≡ movedTo self h a ⌝ }
+    {
+        Goal {
+            passed: self.passed,
+            shared: h,
+            symbol: a,
+            until: self.until,
+            dest: self.dest,
+        }
+    }
+
+    // After the end of the turn, where the next one starts in state h.
+    pub fn entered(self, h: usize) -> Goal
+        requires { ⌜ self .passed ≤ 2 ⌝ }
+        ensures { λ r. ⌜ r ≡ entered self h ⌝ }
+    {
+        Goal {
+            passed: self.passed + 1,
+            shared: h,
+            symbol: self.symbol,
+            until: self.until,
+            dest: self.dest,
+        }
+    }
+
+    // The first symbol of a pair, gone at control y.
+    pub fn gone_at(self, y: usize) -> Goal
+        ensures { λ r. ⌜ r ≡ goneAt self y ⌝ }
+    {
+        Goal {
+            passed: self.passed,
+            shared: self.shared,
+            symbol: self.symbol,
+            until: y / 4,
+            dest: y % 4,
+        }
+    }
+
+    // The second symbol of a pair, from control y on.
+    pub fn rest_at(self, below: usize, y: usize) -> Goal
+        ensures { λ r. ⌜ r ≡ restAt self below y ⌝ }
+    {
+        Goal {
+            passed: y / 4,
+            shared: y % 4,
+            symbol: below,
+            until: self.until,
+            dest: self.dest,
+        }
+    }
+}

@@ -1,0 +1,32 @@
+// The schedule of a chosen line: each thread's steps along it, then both merged by turn.
+ghost use Prim.Native.Nat.{_+_, _*_, _≤_};
+ghost use lib.ListN.{length};
+ghost use Rattle.model.specs.Fits.{Fits};
+ghost use Rattle.model.specs.Lines.{digits};
+ghost use Rattle.witness.specs.Written.{Chosen, Written};
+
+pub mod goal;
+pub mod merge;
+pub mod onward;
+pub mod plan;
+pub mod solve;
+pub mod steps;
+pub mod stretch;
+pub mod tight;
+
+use model::Model;
+
+// Writes a shortest schedule along the full line whose value is v, where x and y are the least steps of A and of B along it.
+pub fn write(m: Model, v: usize, x: u64, y: u64, schedule: &mut [u8])
+    requires { ⌜ Fits m ⌝ ∗ ⌜ Chosen m v x y ⌝ ∗ ⌜ 8190 ≤ length (now schedule) ⌝ }
+    ensures { λ _. ⌜ Written m (digits (m .g) (2 * m .k) v) (x + y) (now (schedule .entry)) (now (schedule .exit)) ⌝ }
+{
+    let g = m.g as usize;
+    let n = m.k as usize - 1;
+    let start = m.start.0 as usize;
+    let mut a = [0u8; 8190];
+    let mut b = [0u8; 8190];
+    steps::steps(m.a, g, n, false, start, v, x as usize, &mut a);
+    steps::steps(m.b, g, n, true, start, v, y as usize, &mut b);
+    merge::merge(&a, x as usize, &b, y as usize, schedule);
+}

@@ -1,0 +1,76 @@
+// One thread's steps along a line: its table is solved for the line's turn ends, and the first symbol above the floor, which
+// no rule takes, is an ordinary pair.
+use crate::goal::Goal;
+use crate::plan::byte;
+use crate::plan::make;
+use crate::solve::solve;
+use crate::stretch::pair;
+use model::Thread;
+use reach::parts::first_state;
+use reach::parts::state_at;
+use reach::parts::turn_of;
+ghost use mathlib.Core.Path.{_≡_};
+ghost use Prim.Native.Nat.{suc, _*_, _^_, _≤_, _<_};
+ghost use lib.ListN.{length};
+ghost use Rattle.model.specs.Fits.{ThreadFits};
+ghost use Rattle.model.specs.Lines.{digits};
+ghost use Rattle.reach.specs.Cost.{idOf, RunAlong, LeastAlong};
+ghost use Rattle.summary.specs.Cells.{size};
+ghost use Rattle.witness.specs.Goals.{Spelled, Starts};
+ghost use Rattle.witness.specs.Plan.{Known};
+
+// Writes a thread's steps along the full line whose value is v, with n turn ends: `count`, the least there are.
+pub fn steps(
+    th: Thread,
+    g: usize,
+    n: usize,
+    other: bool,
+    start: usize,
+    v: usize,
+    count: usize,
+    out: &mut [u8],
+)
+    requires { ⌜ (1 ≤ g) × (g ≤ 4) × (n ≤ 2) × (start < g) × (v < g ^ (2 * suc n)) × ThreadFits g th ⌝
+        ∗ ⌜
+        LeastAlong th (idOf other) n start (digits g (2 * suc n) v) count × (count ≤ 4095) × (2 * count ≤ length (now out))
+        ⌝ }
+    ensures { λ _. ⌜
+        Spelled (RunAlong th (idOf other) n start (digits g (2 * suc n) v)) count 0 (now (out .entry)) (now (out .exit))
+        ⌝ }
+{
+    let mut table = [0u64; 17952];
+    let mut plan = [0u8; 392];
+    prepare(&mut table, &mut plan, th, g, n, other, v);
+    let goal = start_goal(g, n, other, start, v, th.first.0 as usize);
+    pair(&table, &plan, goal, 16, count, out, 0);
+}
+
+// The plan of a thread along a line, and the table solved for the line's turn ends.
+fn prepare(t: &mut [u64], plan: &mut [u8], th: Thread, g: usize, n: usize, other: bool, v: usize)
+    requires { ⌜ (length (now t) ≡ size) × (length (now plan) ≡ 392) ⌝
+        ∗ ⌜ (1 ≤ g) × (g ≤ 4) × (n ≤ 2) × (v < g ^ (2 * suc n)) × ThreadFits g th ⌝ }
+    ensures { λ _. ⌜ Known th (idOf other) g n (digits g (2 * suc n) v) (now (t .exit)) (now (plan .exit)) ⌝ }
+{
+    make(plan, th, g, n, other, v);
+    let o = byte(plan, 2);
+    let i = byte(plan, 3);
+    solve(t, g, n, o, i, th);
+}
+
+// From the state in which the thread's first turn starts, to the end of its last turn with something on its stack, be it the
+// floor.
+fn start_goal(g: usize, n: usize, other: bool, start: usize, v: usize, top: usize) -> Goal
+    requires { ⌜ (1 ≤ g) × (g ≤ 4) × (n ≤ 2) × (start < g) × (v < g ^ (2 * suc n)) ⌝ }
+    ensures { λ r. ⌜ Starts (idOf other) n start (digits g (2 * suc n) v) top g r ⌝ }
+{
+    let len = 2 * n + 2;
+    let from = first_state(g, len, v, other, start);
+    let to = state_at(g, len, v, turn_of(other, n));
+    Goal {
+        passed: 0,
+        shared: from,
+        symbol: top,
+        until: n,
+        dest: 4 + to,
+    }
+}

@@ -1,0 +1,163 @@
+// Tight first steps: those after which just as many steps are left as the table says that the goal needs.
+use crate::goal::Goal;
+use crate::plan::byte;
+use crate::plan::rule_of;
+use model::Right;
+use model::Rule;
+use reach::costs::entry_at;
+use reach::costs::lane_to;
+ghost use mathlib.Core.Path.{_≡_};
+ghost use Prim.Native.Nat.{ℕ, _+_, _≤_, _<_};
+ghost use Rattle.model.specs.Fits.{RuleFits, RightFits};
+ghost use Rattle.reach.specs.Lanes.{endLane};
+ghost use Rattle.witness.specs.Goals.{entryOf, Ready, Says, Sums, Splits, TightBy, Tight};
+ghost use Rattle.witness.specs.Plan.{rulesIn, ruleIn, endsIn, InRange};
+
+// The first rule that is a tight first step; the number of rules where none is.
+pub fn first_rule(t: &[u64], plan: &[u8], goal: Goal, count: usize) -> usize
+    requires { ⌜ Ready (now t) (now plan) goal ⌝ ∗ ⌜ (0 < count) × (count ≤ 4095) ⌝ }
+    ensures tight { λ r. ⌜
+        (r < rulesIn (now (plan .entry))
+        → Tight (now (t .entry)) (now (plan .entry)) goal count (ruleIn (now (plan .entry)) r))
+        ⌝ }
+    ensures none { λ r. ⌜
+        ((i : ℕ) → i < r → Tight (now (t .entry)) (now (plan .entry)) goal count (ruleIn (now (plan .entry)) i) → ⊥)
+        × (r ≤ rulesIn (now (plan .entry)))
+        ⌝ }
+{
+    let n = byte(plan, 6);
+    let mut r = 0;
+    while r < n {
+        let rule = rule_of(plan, r);
+        if suits(t, plan, goal, count, rule) {
+            return r;
+        }
+        r += 1;
+    }
+    n
+}
+
+// Whether a rule is a tight first step.
+fn suits(t: &[u64], plan: &[u8], goal: Goal, count: usize, rule: Rule) -> bool
+    requires { ⌜ Ready (now t) (now plan) goal ⌝ ∗ ⌜ (0 < count) × (count ≤ 4095) × RuleFits 4 rule ⌝ }
+    ensures { λ r. ⌜ Says r (Tight (now (t .entry)) (now (plan .entry)) goal count rule) ⌝ }
+{
+    if rule.before.0 as usize != goal.shared {
+        return false;
+    }
+    if rule.symbol.0 as usize != goal.symbol {
+        return false;
+    }
+    let h = rule.after.0 as usize;
+    let right = rule.right;
+    suits_by(t, plan, goal, count, h, right)
+}
+
+// The same of a rule that applies, by its right side.
+fn suits_by(t: &[u64], plan: &[u8], goal: Goal, count: usize, h: usize, right: Right) -> bool
+    requires { ⌜ Ready (now t) (now plan) goal ⌝ ∗ ⌜ (0 < count) × (count ≤ 4095) × (h < 4) × RightFits right ⌝ }
+    ensures { λ r. ⌜ Says r (TightBy (now (t .entry)) (now (plan .entry)) goal count h right) ⌝ }
+{
+    match right {
+        Right::Remove => removes(goal, count, h),
+        Right::Swap(a) => {
+            let next = goal.moved(h, a.0 as usize);
+            entry_of(t, plan, next) == count - 1
+        }
+        Right::Push(a, b) => {
+            let next = goal.moved(h, a.0 as usize);
+            splits(t, plan, next, b.0 as usize, count - 1)
+        }
+    }
+}
+
+// Whether to remove the symbol is all that a goal needs.
+fn removes(goal: Goal, count: usize, h: usize) -> bool
+    ensures { λ r. ⌜ Says r ((count ≡ 1) × (goal .until ≡ goal .passed) × (goal .dest ≡ h)) ⌝ }
+{
+    if count != 1 {
+        return false;
+    }
+    if goal.until != goal.passed {
+        return false;
+    }
+    goal.dest == h
+}
+
+// Whether a pair can be had in just so many steps.
+fn splits(t: &[u64], plan: &[u8], goal: Goal, below: usize, count: usize) -> bool
+    requires { ⌜ Ready (now t) (now plan) goal ⌝ ∗ ⌜ (below ≤ 16) × (count ≤ 4095) ⌝ }
+    ensures { λ r. ⌜ Says r (Splits (now (t .entry)) (now (plan .entry)) goal below count) ⌝ }
+{
+    if above(t, plan, goal, count) {
+        return true;
+    }
+    middle(t, plan, goal, below, count) < 12
+}
+
+// Whether a pair can be had without touching its second symbol.
+pub fn above(t: &[u64], plan: &[u8], goal: Goal, count: usize) -> bool
+    requires { ⌜ Ready (now t) (now plan) goal ⌝ }
+    ensures { λ r. ⌜ Says r ((4 ≤ goal .dest) × (entryOf (now (t .entry)) (now (plan .entry)) goal ≡ count)) ⌝ }
+{
+    if goal.dest < 4 {
+        return false;
+    }
+    entry_of(t, plan, goal) == count
+}
+
+// The first control at which the first symbol of a pair can be gone; 12 where there is none.
+pub fn middle(t: &[u64], plan: &[u8], goal: Goal, below: usize, count: usize) -> usize
+    requires { ⌜ Ready (now t) (now plan) goal ⌝ ∗ ⌜ (below ≤ 16) × (count ≤ 4095) ⌝ }
+    ensures sums { λ r. ⌜ (r < 12 → Sums (now (t .entry)) (now (plan .entry)) goal below count r) ⌝ }
+    ensures none { λ r. ⌜
+        ((y : ℕ) → y < r → Sums (now (t .entry)) (now (plan .entry)) goal below count y → ⊥) × (r ≤ 12)
+        ⌝ }
+{
+    let mut y = 0;
+    while y < 12 {
+        if sums(t, plan, goal, below, count, y) {
+            return y;
+        }
+        y += 1;
+    }
+    12
+}
+
+// Whether the first symbol of a pair can be gone at control y.
+fn sums(t: &[u64], plan: &[u8], goal: Goal, below: usize, count: usize, y: usize) -> bool
+    requires { ⌜ Ready (now t) (now plan) goal ⌝ ∗ ⌜ (below ≤ 16) × (count ≤ 4095) × (y < 12) ⌝ }
+    ensures { λ r. ⌜ Says r (Sums (now (t .entry)) (now (plan .entry)) goal below count y) ⌝ }
+{
+    if byte(plan, 0) <= y % 4 {
+        return false;
+    }
+    let gone = entry_of(t, plan, goal.gone_at(y));
+    if count < gone {
+        return false;
+    }
+    entry_of(t, plan, goal.rest_at(below, y)) == count - gone
+}
+
+// The count that the table has for a goal.
+pub fn entry_of(t: &[u64], plan: &[u8], goal: Goal) -> usize
+    requires { ⌜ Ready (now t) (now plan) goal ⌝ }
+    ensures { λ r. ⌜ r ≡ entryOf (now (t .entry)) (now (plan .entry)) goal ⌝ }
+{
+    if goal.until < goal.passed {
+        return 4097;
+    }
+    let a = lane_in(plan, 0);
+    let b = lane_in(plan, 1);
+    let last = lane_to(goal.until, a, b);
+    let gap = goal.until - goal.passed;
+    entry_at(t, gap, goal.shared, goal.symbol, goal.dest, last) as usize
+}
+
+// The lane of turn end j.
+fn lane_in(plan: &[u8], j: usize) -> usize
+    requires { ⌜ InRange (now plan) ⌝ ∗ ⌜ j < 2 ⌝ }
+    ensures { λ r. ⌜ (r ≡ endLane (endsIn (now (plan .entry))) j) × (r < 16) ⌝ }
+{
+    byte(plan, 2 + 2 * j) * 4 + byte(plan, 3 + 2 * j)
+}
