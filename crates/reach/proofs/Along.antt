@@ -18,11 +18,7 @@ use Rattle.summary.specs.Stretch.{Path}
 use Rattle.reach.specs.Cost.{control}
 use Rattle.reach.specs.Ends.{turnOf, endsOf, firstState, lastState}
 use Rattle.reach.specs.View.{View}
-
--- No thread is the other.
-apart : (i : ThreadId) → i ≡ other i → ⊥
-apart A e = let z : _≡_ {A = ℕ} 0 1 = cc in omega arith
-apart B e = let z : _≡_ {A = ℕ} 0 1 = cc in omega arith
+use Rattle.reach.proofs.Views.{apart, skips}
 
 -- The line from the thread's own turn j on: turn n is its last, and ends in e; the other's turn may come after it.
 data Own (ends : ℕ → TurnEnd) (n e : ℕ) : ℕ → List ℕ → Type 0 where
@@ -50,13 +46,6 @@ module _ {m : Model} {i : ThreadId} where
   over (View.skip p v) h = absurd (let z : _≡_ {A = ℕ} 0 1 = cc in omega arith)
   over (View.end p v) h = absurd (let z : _≡_ {A = ℕ} 0 1 = cc in omega arith)
   over (View.move p a v) h = absurd (let z : _≡_ {A = ℕ} 0 1 = cc in omega arith)
-
-  -- A turn of the other thread is skipped.
-  skipped : {t g x : ℕ} {w line : List ℕ} {ss : List Step} → View m i t g w (x ∷ line) ss → ownerOf t ≡ other i
-      → View m i (suc t) x w line ss
-  skipped (View.skip p v) h = v
-  skipped (View.end p v) h = absurd (apart i (sym p ∙ h))
-  skipped (View.move p a v) h = absurd (apart i (sym p ∙ h))
 
   -- A turn that ends where the line says.
   ended : {t g o : ℕ} {w line : List ℕ} {ss : List Step} → g ≡ o → ownerOf t ≡ i → View m i (suc t) g w line ss
@@ -154,7 +143,7 @@ line-view m A n g w line ss h = from-first m A n g w line ss h
 line-view m B n g w [] ss h = absurd (omega arith)
 line-view m B n g w (x ∷ line) ss h =
     let f = from-first m B n x w (x ∷ line) ss h in
-    (λ v. f .0 (skipped v refl), λ p. View.skip refl (f .1 p))
+    (λ v. f .0 (skips v refl), λ p. View.skip refl (f .1 p))
 
 -- A state of a line.
 state-at : (G : ℕ) (line : List ℕ) → States G line → (k : ℕ) → k < length line → getD line k 0 < G

@@ -65,7 +65,7 @@ next-turn : {i j : ThreadId} → Pair i j → (t : ℕ) → ownerOf t ≡ i → 
 next-turn p t e = ap other e ∙ second p
 
 -- No thread is the other one.
-apart : (i : ThreadId) → i ≡ other i → ⊥
+pub apart : (i : ThreadId) → i ≡ other i → ⊥
 apart A e = let z : _≡_ {A = ℕ} 0 1 = cc in omega arith
 apart B e = let z : _≡_ {A = ℕ} 0 1 = cc in omega arith
 
@@ -104,7 +104,7 @@ module _ {m : Model} where
   joined-over r = record { steps = r .steps; turns = r .turns; merged = swapped (r .merged) }
 
   -- In a turn of the other thread a view is a skip.
-  skips : {j : ThreadId} {t g o : ℕ} {w line : List ℕ} {ss : List Step}
+  pub skips : {j : ThreadId} {t g o : ℕ} {w line : List ℕ} {ss : List Step}
       → View m j t g w (o ∷ line) ss → ownerOf t ≡ other j → View m j (suc t) o w line ss
   skips (skip e r) h = r
   skips {j} (end e r) h = absurd (apart j (sym e ∙ h))

@@ -31,6 +31,10 @@ LaneTo ends (suc j) l = l ≡ endLane ends j
 abbrev pub lineLane : ThreadId → ℕ → ℕ → ℕ → ℕ → ℕ
 lineLane i G size v j = endLane (endsOf i (digits G size v)) j
 
+-- A list of the lanes of the first turn ends of all full lines of three rounds.
+pub record FirstLanes (i : ThreadId) (G : ℕ) (lanes : List ℕ) : Type 0 where
+  pub lane : (v : ℕ) → v < G ^ 6 → getD lanes v 0 ≡ lineLane i G 6 v 0
+
 -- The cost of the full line whose value is v, read off a table.
 abbrev pub costOf : ThreadId → List ℕ → ℕ → ℕ → ℕ → ℕ → ℕ → ℕ
 costOf i tab G n g γ v = lineCost i tab G n g γ (digits G (2 * suc n) v)

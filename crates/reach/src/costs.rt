@@ -24,7 +24,7 @@ ghost use Rattle.summary.specs.Cells.{size, second, First, Solved};
 ghost use Rattle.summary.specs.Control.{TurnEnd};
 ghost use Rattle.summary.specs.Edges.{bestOf, cell};
 ghost use Rattle.reach.specs.Cost.{control, overStates, pairCost, idOf, Costs, BothCosts};
-ghost use Rattle.reach.specs.Lanes.{placeAt, endLane, LaneTo, lineLane, costOf, CostsTo};
+ghost use Rattle.reach.specs.Lanes.{placeAt, endLane, LaneTo, lineLane, costOf, CostsTo, FirstLanes};
 
 // The costs of all full lines of both threads of a model in range.
 pub fn both(m: Model, a: &mut [u64], b: &mut [u64])
@@ -94,10 +94,25 @@ fn fill_ends(t: &mut [u64], costs: &mut [u64], g: usize, other: bool, start: usi
         ⌝ }
     ensures { λ r. ⌜ Costs th (idOf other) g 2 start (now (costs .exit)) ⌝ }
 {
+    let mut lanes = [0usize; 4096];
+    find_lanes(&mut lanes, g, other);
     let mut o = 0;
     while o < g {
-        fill_from(t, costs, g, other, start, o, th);
+        fill_from(t, costs, &lanes, g, other, start, o, th);
         o += 1;
+    }
+}
+
+// The lane of each full line's first turn end.
+fn find_lanes(lanes: &mut [usize], g: usize, other: bool)
+    requires { ⌜ (length (now lanes) ≡ 4096) × (1 ≤ g) × (g ≤ 4) ⌝ }
+    ensures { λ _. ⌜ FirstLanes (idOf other) g (now (lanes .exit)) ⌝ }
+{
+    let count = power(g, 6);
+    let mut v = 0;
+    while v < count {
+        lanes[v] = lane_of(g, 6, v, other, 0);
+        v += 1;
     }
 }
 
@@ -105,6 +120,7 @@ fn fill_ends(t: &mut [u64], costs: &mut [u64], g: usize, other: bool, start: usi
 fn fill_from(
     t: &mut [u64],
     costs: &mut [u64],
+    lanes: &[usize],
     g: usize,
     other: bool,
     start: usize,
@@ -114,7 +130,7 @@ fn fill_from(
     requires { ⌜
         (length (now t) ≡ size) × (length (now costs) ≡ 4096) × (1 ≤ g) × (g ≤ 4) × (start < g) × (o < g) × ThreadFits g th
         × Solved (First th g) second (now t) × CostsTo th (idOf other) g start (o * 4) (now costs)
-        ⌝ }
+        ⌝ ∗ ⌜ (length (now lanes) ≡ 4096) × FirstLanes (idOf other) g (now lanes) ⌝ }
     ensures solved { λ r. ⌜ Solved (First th g) second (now (t .exit)) ⌝ }
     ensures known { λ r. ⌜ CostsTo th (idOf other) g start (o * 4 + 4) (now (costs .exit)) ⌝ }
 {
@@ -122,7 +138,7 @@ fn fill_from(
     let mut i = 0;
     while i < g {
         close_second(t, g, o, i, th);
-        fill_slice(t, costs, g, other, start, top, o * 4 + i);
+        fill_slice(t, costs, lanes, g, other, start, top, o * 4 + i);
         i += 1;
     }
 }
@@ -131,6 +147,7 @@ fn fill_from(
 fn fill_slice(
     t: &[u64],
     costs: &mut [u64],
+    lanes: &[usize],
     g: usize,
     other: bool,
     start: usize,
@@ -139,7 +156,7 @@ fn fill_slice(
 )
     requires { ⌜
         (length (now t) ≡ size) × (length (now costs) ≡ 4096) × (1 ≤ g) × (g ≤ 4) × (start < g) × (top < 17)
-        ⌝ }
+        ⌝ ∗ ⌜ (length (now lanes) ≡ 4096) × FirstLanes (idOf other) g (now lanes) ⌝ }
     ensures { λ r. ⌜
         ((v : ℕ) → v < g ^ 6
         → getD (now (costs .exit)) v 0
@@ -150,7 +167,7 @@ fn fill_slice(
     let count = power(g, 6);
     let mut v = 0;
     while v < count {
-        costs[v] = slice_cost(t, g, other, start, top, lane, v, costs[v]);
+        costs[v] = slice_cost(t, lanes, g, other, start, top, lane, v, costs[v]);
         v += 1;
     }
 }
@@ -158,6 +175,7 @@ fn fill_slice(
 // The cost of a full line with two turn ends where its first one has this lane, and else the old value.
 fn slice_cost(
     t: &[u64],
+    lanes: &[usize],
     g: usize,
     other: bool,
     start: usize,
@@ -168,12 +186,12 @@ fn slice_cost(
 ) -> u64
     requires { ⌜
         (length (now t) ≡ size) × (1 ≤ g) × (g ≤ 4) × (start < g) × (top < 17) × (v < g ^ 6)
-        ⌝ }
+        ⌝ ∗ ⌜ (v < length (now lanes)) × FirstLanes (idOf other) g (now lanes) ⌝ }
     ensures { λ r. ⌜
         r ≡ cond (eqb (lineLane (idOf other) g 6 v 0) lane) (costOf (idOf other) (now (t .entry)) g 2 start top v) old
         ⌝ }
 {
-    if lane_of(g, 6, v, other, 0) == lane {
+    if lanes[v] == lane {
         line_cost(t, g, 2, other, start, top, v)
     } else {
         old

@@ -11,21 +11,25 @@ use Rattle.reach.proofs.costs.fill_from.Statement.{statement}
 use Rattle.reach.proofs.costs.fill_from.Tie as tie
 
 abbrev Inv-loop : tie.InvT-loop
-Inv-loop t₀ costs₀ g other start o th top i₀ t costs i =
+Inv-loop t₀ costs₀ lanes g other start o th top i₀ t costs i =
     (i ≤ g) × (length t ≡ length t₀) × (length costs ≡ length costs₀) × Solved (First th g) second t
     × Known th (idOf other) g start (o * 4 + i) costs
 
 abbrev μ-loop : tie.MeasureT-loop
-μ-loop t₀ costs₀ g other start o th top i₀ t costs i = g - i
+μ-loop t₀ costs₀ lanes g other start o th top i₀ t costs i = g - i
 
 cast-top : tie.Need-cast-top Inv-loop μ-loop
 cast-top c = search needs
 
 loop-holds : tie.Need-loop-holds Inv-loop μ-loop
-loop-holds c = (search needs, search needs, search needs, c .before .before .before .pre .7, known-fewer (omega arith) (c .before .before .before .pre .8))
+loop-holds c =
+    let pre = c .before .before .before .before .pre .0 in
+    (search needs, search needs, search needs, pre .7, known-fewer (omega arith) (pre .8))
 
 close-second-requires : tie.Need-close-second-requires Inv-loop μ-loop
-close-second-requires c κs = search needs
+close-second-requires c κs =
+    let pre = c .before .before .before .before .before .before .before .pre .0 in
+    (search needs, pre .3, omega (arith, pre .3, pre .5), search needs, pre .6, c .before .before .loop .inv .3)
 
 mul-fill-slice : tie.Need-mul-fill-slice Inv-loop μ-loop
 mul-fill-slice c = search needs
@@ -34,7 +38,9 @@ add-fill-slice : tie.Need-add-fill-slice Inv-loop μ-loop
 add-fill-slice c = search needs
 
 fill-slice-requires : tie.Need-fill-slice-requires Inv-loop μ-loop
-fill-slice-requires c κs = search needs
+fill-slice-requires c κs =
+    let pre = c .before .before .before .before .before .before .before .before .before .before .before .before .pre in
+    ((search needs, search needs, pre .0 .2, pre .0 .3, pre .0 .4, search needs), pre .1)
 
 add-i : tie.Need-add-i Inv-loop μ-loop
 add-i c = search needs
@@ -48,7 +54,7 @@ loop-again c =
     let loop-test = c .before .before .before .before .before .before .before .before .before .loop-test in
     let close-second = c .before .before .before .before .before .before .before .close-second in
     let fill-slice = c .before .before .fill-slice in
-    let pre = c .before .before .before .before .before .before .before .before .before .before .before .before .before .before .pre in (
+    let pre = c .before .before .before .before .before .before .before .before .before .before .before .before .before .before .before .pre .0 in (
       search needs,
       search needs,
       search needs,
@@ -65,7 +71,7 @@ same-length-2 c = search needs
 returns : tie.Need-returns Inv-loop μ-loop
 returns c =
     let loop = c .before .loop in
-    let pre = c .before .before .before .before .before .pre in
+    let pre = c .before .before .before .before .before .before .pre .0 in
     (loop .inv .3, known-left _ (pre .3) (c .loop-test .left) (loop .inv .4))
 
 pub fill-from-spec : {M : Type 1} → statement M

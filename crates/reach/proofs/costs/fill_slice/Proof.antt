@@ -13,13 +13,13 @@ use Rattle.reach.proofs.costs.fill_slice.Statement.{statement}
 use Rattle.reach.proofs.costs.fill_slice.Tie as tie
 
 abbrev Inv-loop : tie.InvT-loop
-Inv-loop t costs₀ g other start top lane count v₀ costs v =
+Inv-loop t costs₀ lanes g other start top lane count v₀ costs v =
     (v ≤ count)
     × Front (λ v x. x ≡ cond (eqb (lineLane (idOf other) g 6 v 0) lane) (costOf (idOf other) t g 2 start top v) (getD costs₀ v 0)) v
     costs₀ costs
 
 abbrev μ-loop : tie.MeasureT-loop
-μ-loop t costs₀ g other start top lane count v₀ costs v = count - v
+μ-loop t costs₀ lanes g other start top lane count v₀ costs v = count - v
 
 power-requires : tie.Need-power-requires Inv-loop μ-loop
 power-requires c κs = search needs
@@ -34,7 +34,9 @@ slice-read-slice-cost : tie.Need-slice-read-slice-cost Inv-loop μ-loop
 slice-read-slice-cost c = search needs
 
 slice-cost-requires : tie.Need-slice-cost-requires Inv-loop μ-loop
-slice-cost-requires c κs = search needs
+slice-cost-requires c κs =
+    let start = c .before .before .before .before .before .before .before in
+    ((search needs, search needs, search needs, search needs, search needs, search needs), (search needs, start .pre .1 .1))
 
 mul-costs : tie.Need-mul-costs Inv-loop μ-loop
 mul-costs c = search needs

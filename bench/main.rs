@@ -1,0 +1,178 @@
+// Times the proved library beside an unproved program of the same algorithm, on fixed models, and prints two tables.
+mod compare;
+mod models;
+mod proved;
+mod reference;
+
+use models::Family;
+use std::hint::black_box;
+use std::io::{IsTerminal, Write};
+use std::time::Instant;
+
+// Best times of one call on one model, in nanoseconds.
+struct Pair {
+    proved: f64,
+    plain: f64,
+}
+
+// A model's record, and the schedule that the proved library writes for it: empty where there is none.
+struct Case {
+    record: Vec<u8>,
+    schedule: Vec<u8>,
+}
+
+// A row of a table: a call on the models of a family.
+struct Row {
+    name: String,
+    call: Call,
+    cases: Vec<Case>,
+    pairs: Vec<Pair>,
+}
+
+type Call = fn(&Case) -> Pair;
+
+const CALLS: [(&str, Call); 4] = [("judgement", judgement), ("line table", line_table), ("replay", replay), ("read", read)];
+
+// Each row is timed in so many rounds, and the best counts: a machine that is busy for some seconds spoils one of them.
+const ROUNDS: u32 = 4;
+
+// How the time grows: K, and the rules of each thread.
+const GROWTH: [(u8, usize); 7] = [(1, 64), (2, 64), (3, 64), (3, 32), (3, 16), (3, 8), (3, 4)];
+
+const HEAD: &str = "| Proved: median | worst | Unproved: median | worst | Ratio of medians |\n|---|---|---|---|---|---|---|---|";
+
+fn main() {
+    let fixed = models::fixed();
+    let grown = GROWTH.map(|(k, rules)| models::random(&format!("K={k}, {rules}+{rules} rules"), 16, k, 16, rules));
+    for family in fixed.iter().chain(&grown) {
+        for (i, record) in family.records.iter().enumerate() {
+            if let Err(what) = compare::agree(record) {
+                eprintln!("error: {}, model {i}: {what}", family.name);
+                std::process::exit(1);
+            }
+        }
+    }
+
+    let mut rows = Vec::new();
+    for (name, call) in CALLS {
+        rows.extend(fixed.iter().map(|family| Row::new(format!("{name} | {}", family.name), call, family)));
+    }
+    let first = rows.len();
+    for ((k, rules), family) in GROWTH.iter().zip(&grown) {
+        rows.push(Row::new(format!("{k} | {rules}+{rules}"), judgement, family));
+    }
+    for round in 1..=ROUNDS {
+        for row in &mut rows {
+            row.measure(round);
+        }
+    }
+    progress("");
+
+    println!("| Call | Models | {HEAD}");
+    rows[..first].iter().for_each(Row::print);
+    println!("\n| K | Rules | {HEAD}");
+    rows[first..].iter().for_each(Row::print);
+}
+
+// A line on a terminal that is written over by the next.
+fn progress(line: &str) {
+    let mut err = std::io::stderr();
+    if err.is_terminal() {
+        let _ = write!(err, "\r{line:<70}\r").and_then(|()| err.flush());
+    }
+}
+
+impl Row {
+    fn new(name: String, call: Call, family: &Family) -> Row {
+        let cases: Vec<Case> = family.records.iter().map(|record| Case::new(record)).collect();
+        let pairs = cases.iter().map(|_| Pair { proved: f64::MAX, plain: f64::MAX }).collect();
+        Row { name, call, cases, pairs }
+    }
+
+    fn measure(&mut self, round: u32) {
+        for (i, (case, pair)) in self.cases.iter().zip(&mut self.pairs).enumerate() {
+            progress(&format!("round {round} of {ROUNDS}: {}, model {} of {}", self.name, i + 1, self.cases.len()));
+            let new = (self.call)(case);
+            pair.proved = pair.proved.min(new.proved);
+            pair.plain = pair.plain.min(new.plain);
+        }
+    }
+
+    // Median and worst of both sides over the models, and the ratio of the medians.
+    fn print(&self) {
+        let (median, worst) = summed(self.pairs.iter().map(|p| p.proved).collect());
+        let (plain_median, plain_worst) = summed(self.pairs.iter().map(|p| p.plain).collect());
+        let times = [median, worst, plain_median, plain_worst].map(shown).join(" | ");
+        println!("| {} | {} | {times} | {:.2} |", self.name, self.cases.len(), median / plain_median);
+    }
+}
+
+impl Case {
+    fn new(record: &[u8]) -> Case {
+        let mut schedule = vec![0; 8190];
+        let answer = proved::judge(record, &mut [0; 683], &mut schedule);
+        schedule.truncate(if answer < 32 { 0 } else { 2 * (answer as usize - 32) });
+        Case { record: record.to_vec(), schedule }
+    }
+}
+
+fn judgement(case: &Case) -> Pair {
+    let (mut store, mut other) = ([0; 683], [0; 683]);
+    let (mut schedule, mut spare) = ([0; 8190], [0; 8190]);
+    best(
+        || proved::judge(black_box(&case.record), &mut store, &mut schedule),
+        || reference::judge(black_box(&case.record), &mut other, &mut spare),
+    )
+}
+
+fn line_table(case: &Case) -> Pair {
+    let (mut store, mut other) = ([0; 683], [0; 683]);
+    best(
+        || proved::lines(black_box(&case.record), &mut store),
+        || reference::lines(black_box(&case.record), &mut other),
+    )
+}
+
+fn replay(case: &Case) -> Pair {
+    best(
+        || proved::replay(black_box(&case.record), &case.schedule),
+        || reference::replay(black_box(&case.record), &case.schedule),
+    )
+}
+
+fn read(case: &Case) -> Pair {
+    best(|| proved::read(black_box(&case.record)), || reference::read(black_box(&case.record)))
+}
+
+// The best of two samples of each side, turn by turn. Short calls are repeated in a sample.
+fn best(mut proved: impl FnMut() -> u64, mut plain: impl FnMut() -> u64) -> Pair {
+    let once = sample(1, &mut proved).max(1.0);
+    let repeats = (30_000.0 / once).ceil().clamp(1.0, 1000.0) as u32;
+    let mut pair = Pair { proved: f64::MAX, plain: f64::MAX };
+    for _ in 0..2 {
+        pair.proved = pair.proved.min(sample(repeats, &mut proved));
+        pair.plain = pair.plain.min(sample(repeats, &mut plain));
+    }
+    pair
+}
+
+fn sample(repeats: u32, call: &mut impl FnMut() -> u64) -> f64 {
+    let start = Instant::now();
+    for _ in 0..repeats {
+        black_box(call());
+    }
+    start.elapsed().as_nanos() as f64 / repeats as f64
+}
+
+fn summed(mut times: Vec<f64>) -> (f64, f64) {
+    times.sort_by(f64::total_cmp);
+    (times[times.len() / 2], times[times.len() - 1])
+}
+
+fn shown(nanoseconds: f64) -> String {
+    match nanoseconds {
+        t if t < 1e3 => format!("{t:.0} ns"),
+        t if t < 1e6 => format!("{:.1} µs", t / 1e3),
+        t => format!("{:.2} ms", t / 1e6),
+    }
+}

@@ -1,0 +1,26 @@
+// The proved library, over its C interface.
+extern "C" {
+    fn turncheck_read(record: *const u8, n: usize) -> u64;
+    fn turncheck_lines(record: *const u8, n: usize, store: *mut u8, m: usize) -> u64;
+    fn turncheck_judge(record: *const u8, n: usize, store: *mut u8, m: usize, schedule: *mut u8, l: usize) -> u64;
+    fn turncheck_replay(record: *const u8, n: usize, schedule: *const u8, l: usize) -> u64;
+}
+
+// Each call is handed the places and lengths of slices that live as long as it runs; its contract asks for no more.
+
+pub fn read(record: &[u8]) -> u64 {
+    unsafe { turncheck_read(record.as_ptr(), record.len()) }
+}
+
+pub fn lines(record: &[u8], store: &mut [u8]) -> u64 {
+    unsafe { turncheck_lines(record.as_ptr(), record.len(), store.as_mut_ptr(), store.len()) }
+}
+
+pub fn judge(record: &[u8], store: &mut [u8], schedule: &mut [u8]) -> u64 {
+    let (n, m, l) = (record.len(), store.len(), schedule.len());
+    unsafe { turncheck_judge(record.as_ptr(), n, store.as_mut_ptr(), m, schedule.as_mut_ptr(), l) }
+}
+
+pub fn replay(record: &[u8], schedule: &[u8]) -> u64 {
+    unsafe { turncheck_replay(record.as_ptr(), record.len(), schedule.as_ptr(), schedule.len()) }
+}

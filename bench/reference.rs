@@ -1,0 +1,142 @@
+// The yardstick: the same calls by the same algorithm, in plain Rust and with nothing proved. Records in; each call answers the
+// refusal's number, or what its comment says, as the proved library does.
+mod costs;
+mod record;
+mod table;
+mod walk;
+mod witness;
+
+#[derive(Clone, Copy)]
+pub enum Right {
+    Remove,
+    Swap(usize),
+    Push(usize, usize),
+}
+
+#[derive(Clone, Copy)]
+pub struct Rule {
+    pub before: usize,
+    pub symbol: usize,
+    pub after: usize,
+    pub right: Right,
+}
+
+pub struct Thread {
+    pub first: usize,
+    pub rules: Vec<Rule>,
+}
+
+pub struct Model {
+    pub g: usize,
+    pub k: usize,
+    pub start: usize,
+    pub target: usize,
+    pub a: Thread,
+    pub b: Thread,
+}
+
+// 0 where the record is accepted.
+pub fn read(record: &[u8]) -> u64 {
+    match record::read(record) {
+        Ok(_) => 0,
+        Err(number) => number,
+    }
+}
+
+// 0 where the line table is at the front of the store.
+pub fn lines(record: &[u8], store: &mut [u8]) -> u64 {
+    let model = match record::read(record) {
+        Ok(model) => model,
+        Err(number) => return number,
+    };
+    if store.len() < bytes_for(&model) {
+        return 7;
+    }
+    let (a, b) = costs::both(&model);
+    draw(&model, &a, &b, store);
+    0
+}
+
+// 16 for Clear, 17 for Long, 32 + n for Found in n steps.
+pub fn judge(record: &[u8], store: &mut [u8], schedule: &mut [u8]) -> u64 {
+    let model = match record::read(record) {
+        Ok(model) => model,
+        Err(number) => return number,
+    };
+    if store.len() < bytes_for(&model) || schedule.len() < 8190 {
+        return 7;
+    }
+    let (a, b) = costs::both(&model);
+    draw(&model, &a, &b, store);
+    let (steps, line) = choose(&model, &a, &b);
+    if steps > table::LONG {
+        return 16;
+    }
+    if steps == table::LONG {
+        return 17;
+    }
+    witness::write(&model, line, a[line], b[line], schedule);
+    32 + steps
+}
+
+// 16 + the last state, 24 + it where it is the target.
+pub fn replay(record: &[u8], schedule: &[u8]) -> u64 {
+    let model = match record::read(record) {
+        Ok(model) => model,
+        Err(number) => return number,
+    };
+    match walk::walk(&model, schedule) {
+        Ok(last) if last == model.target => 24 + last as u64,
+        Ok(last) => 16 + last as u64,
+        Err(number) => number,
+    }
+}
+
+fn line_bits(m: &Model) -> usize {
+    (1..=2 * m.k as u32).map(|n| m.g.pow(n)).sum()
+}
+
+fn bytes_for(m: &Model) -> usize {
+    line_bits(m).div_ceil(8)
+}
+
+// The full line to the target with the fewest steps of both threads together.
+fn choose(m: &Model, a: &[u64], b: &[u64]) -> (u64, usize) {
+    let mut best = (table::NONE, 0);
+    for v in (m.target..m.g.pow(2 * m.k as u32)).step_by(m.g) {
+        let steps = table::joined(a[v], b[v], best.0);
+        if steps < best.0 {
+            best = (steps, v);
+        }
+    }
+    best
+}
+
+// Bit p stands where both threads can follow the full line of place p.
+fn draw(m: &Model, a: &[u64], b: &[u64], store: &mut [u8]) {
+    let bits = line_bits(m);
+    for (at, byte) in store[..bits.div_ceil(8)].iter_mut().enumerate() {
+        *byte = 0;
+        for bit in 0..8.min(bits - 8 * at) {
+            let v = full_line(m, 8 * at + bit);
+            if a[v] <= table::LONG && b[v] <= table::LONG {
+                *byte |= 1 << bit;
+            }
+        }
+    }
+}
+
+// The value of the line at place p, with its last state repeated up to 2K states.
+fn full_line(m: &Model, p: usize) -> usize {
+    let (mut q, mut count, mut len) = (p, m.g, 1);
+    while count <= q {
+        q -= count;
+        count *= m.g;
+        len += 1;
+    }
+    let last = q % m.g;
+    for _ in len..2 * m.k {
+        q = q * m.g + last;
+    }
+    q
+}

@@ -1,0 +1,183 @@
+/* Makes each call of a file of cases on a thread of its own, and compares the answer and every byte of every store.
+ * Arguments: the file, and the size of the threads' stacks in KB. cases.txt says how a case is written. */
+#define _POSIX_C_SOURCE 200809L
+#include "../turncheck.h"
+
+#include <inttypes.h>
+#include <pthread.h>
+#include <stdio.h>
+#include <stdlib.h>
+#include <string.h>
+
+enum { MOST = 16384, FILLER = 0xAA };
+
+/* Bytes that are lent to a call, or that are expected of it. */
+struct bytes {
+    uint8_t at[MOST];
+    size_t size;
+};
+
+/* What a call is given and what it answers. */
+static struct bytes record, first, second;
+static const char *name;
+static uint64_t answer;
+
+static void *call(void *unused) {
+    (void)unused;
+    if (strcmp(name, "read") == 0)
+        answer = turncheck_read(record.at, record.size);
+    else if (strcmp(name, "write") == 0)
+        answer = turncheck_write(record.at, record.size, first.at, first.size);
+    else if (strcmp(name, "lines") == 0)
+        answer = turncheck_lines(record.at, record.size, first.at, first.size);
+    else if (strcmp(name, "judge") == 0)
+        answer = turncheck_judge(record.at, record.size, first.at, first.size, second.at, second.size);
+    else if (strcmp(name, "replay") == 0)
+        answer = turncheck_replay(record.at, record.size, first.at, first.size);
+    return NULL;
+}
+
+static void fail(const char *why) {
+    fprintf(stderr, "cases: %s\n", why);
+    exit(2);
+}
+
+/* Makes a call on a thread with a stack of so many KB. */
+static uint64_t on_thread(const char *which, size_t stack) {
+    pthread_attr_t attributes;
+    pthread_t thread;
+    name = which;
+    answer = UINT64_MAX;
+    if (pthread_attr_init(&attributes) != 0) fail("no attributes");
+    if (pthread_attr_setstacksize(&attributes, stack * 1024) != 0) fail("no such stack size");
+    if (pthread_create(&thread, &attributes, call, NULL) != 0) fail("no thread");
+    if (pthread_join(thread, NULL) != 0) fail("the thread does not end");
+    pthread_attr_destroy(&attributes);
+    return answer;
+}
+
+/* Bytes from their text: parts with a comma between them, each `-` for none, or base 16, with `*` and how often they stand there. */
+static void parse(const char *text, struct bytes *b) {
+    unsigned value;
+    b->size = 0;
+    while (text != NULL && *text != 0) {
+        size_t start = b->size;
+        for (; sscanf(text, "%2x", &value) == 1 && b->size < MOST; text += 2) b->at[b->size++] = (uint8_t)value;
+        size_t once = b->size - start, times = *text == '*' ? strtoul(text + 1, NULL, 10) : 1;
+        if (start + once * times > MOST) fail("a case is too long");
+        for (; b->size < start + once * times; b->size++) b->at[b->size] = b->at[b->size - once];
+        text = strchr(text, ',');
+        if (text != NULL) text++;
+    }
+}
+
+static size_t size_of(const char *text) {
+    return text == NULL ? 0 : strtoul(text, NULL, 10);
+}
+
+/* A store of so many bytes, all the filler. */
+static void lend(size_t size, struct bytes *b) {
+    if (size > MOST) fail("a store is too large");
+    b->size = size;
+    memset(b->at, FILLER, MOST);
+}
+
+/* A store begins with what is expected, and all other bytes are as they were. */
+static int begins(const struct bytes *store, const struct bytes *expected) {
+    if (expected->size > store->size || memcmp(store->at, expected->at, expected->size) != 0) return 0;
+    for (size_t i = expected->size; i < MOST; i++)
+        if (store->at[i] != FILLER) return 0;
+    return 1;
+}
+
+/* The same by a word: `?` for anything, `=` for the record, no word for no bytes. */
+static int holds(const struct bytes *store, const char *word) {
+    static struct bytes expected;
+    if (word != NULL && strcmp(word, "?") == 0) return 1;
+    if (word != NULL && strcmp(word, "=") == 0) return begins(store, &record);
+    parse(word, &expected);
+    return begins(store, &expected);
+}
+
+/* The answer of a call in words. */
+static void tell(const char *which, uint64_t n, char *words, size_t size) {
+    if (n >= 1 && n < 16)
+        snprintf(words, size, "refused:%" PRIu64, n);
+    else if (strcmp(which, "read") == 0 && n == TURNCHECK_DONE)
+        snprintf(words, size, "accepted");
+    else if (strcmp(which, "lines") == 0 && n == TURNCHECK_DONE)
+        snprintf(words, size, "done");
+    else if (strcmp(which, "write") == 0)
+        snprintf(words, size, "length:%" PRIu64, n - TURNCHECK_LENGTH);
+    else if (strcmp(which, "judge") == 0 && n == TURNCHECK_CLEAR)
+        snprintf(words, size, "clear");
+    else if (strcmp(which, "judge") == 0 && n == TURNCHECK_LONG)
+        snprintf(words, size, "long");
+    else if (strcmp(which, "judge") == 0 && n >= TURNCHECK_FOUND)
+        snprintf(words, size, "found:%" PRIu64, n - TURNCHECK_FOUND);
+    else if (strcmp(which, "replay") == 0 && n >= TURNCHECK_TARGET)
+        snprintf(words, size, "target:%" PRIu64, n - TURNCHECK_TARGET);
+    else if (strcmp(which, "replay") == 0)
+        snprintf(words, size, "state:%" PRIu64, n - TURNCHECK_STATE);
+    else
+        snprintf(words, size, "number:%" PRIu64, n);
+}
+
+/* What a verdict left: the table that turncheck_lines fills, and a schedule that replay finds to reach the target. */
+static int judged(uint64_t verdict, size_t stack) {
+    static struct bytes table, found;
+    table = first;
+    found = second;
+    lend(first.size, &first);
+    if (on_thread("lines", stack) != TURNCHECK_DONE || memcmp(first.at, table.at, MOST) != 0) return 0;
+    first = found;
+    first.size = verdict < TURNCHECK_FOUND ? 0 : 2 * (size_t)(verdict - TURNCHECK_FOUND);
+    if (!begins(&found, &first)) return 0;
+    return verdict < TURNCHECK_FOUND || on_thread("replay", stack) >= TURNCHECK_TARGET;
+}
+
+/* One case, by its words: the call, what is lent beside the record, the answer, what the stores then hold. */
+static int agrees(char **word, size_t stack) {
+    char words[40];
+    int judge = strcmp(word[0], "judge") == 0, replay = strcmp(word[0], "replay") == 0;
+    int stores = judge ? 2 : strcmp(word[0], "write") == 0 || strcmp(word[0], "lines") == 0;
+    char **wanted = word + 1 + stores + replay;
+    if (replay) parse(word[1], &first);
+    if (stores > 0) lend(size_of(word[1]), &first);
+    if (stores > 1) lend(size_of(word[2]), &second);
+    uint64_t n = on_thread(word[0], stack);
+    tell(word[0], n, words, sizeof words);
+    if (*wanted == NULL || strcmp(words, *wanted) != 0) return 0;
+    if (stores > 0 && !holds(&first, wanted[1])) return 0;
+    if (stores > 1 && !holds(&second, wanted[2])) return 0;
+    return !judge || n < TURNCHECK_CLEAR || judged(n, stack);
+}
+
+int main(int count, char **arguments) {
+    static char line[4 * MOST];
+    if (count != 3) fail("usage: cases FILE KB");
+    size_t stack = size_of(arguments[2]);
+    FILE *file = fopen(arguments[1], "r");
+    if (file == NULL) fail("no such file");
+    unsigned compared = 0, differ = 0;
+    while (fgets(line, sizeof line, file) != NULL) {
+        char shown[64], *word[16] = {NULL};
+        snprintf(shown, sizeof shown, "%.60s", line);
+        shown[strcspn(shown, "\n")] = 0;
+        size_t words = 0;
+        for (char *w = strtok(line, " \n"); w != NULL && words < 15; w = strtok(NULL, " \n")) word[words++] = w;
+        if (words == 0 || word[0][0] == '#') continue;
+        if (strcmp(word[0], "record") == 0) {
+            parse(word[1], &record);
+            continue;
+        }
+        compared++;
+        if (!agrees(word, stack)) {
+            differ++;
+            printf("differs: %s\n", shown);
+        }
+    }
+    fclose(file);
+    printf("%u compared, %u differ\n", compared, differ);
+    return differ != 0 || compared == 0;
+}

@@ -1,0 +1,140 @@
+//! Makes each call of a file of cases on a thread of its own, and compares the answer and every byte of every store.
+//! Arguments: the file, and the size of the threads' stacks in KB. cases.txt says how a case is written.
+#[allow(dead_code)]
+mod turncheck;
+
+use turncheck::{Last, Refusal, Verdict};
+
+const FILLER: u8 = 0xAA;
+
+/// Makes a call on a thread with a stack of so many bytes.
+fn on_thread<T: Send>(stack: usize, call: impl FnOnce() -> T + Send) -> T {
+    std::thread::scope(|scope| {
+        let thread = std::thread::Builder::new().stack_size(stack);
+        thread.spawn_scoped(scope, call).expect("no thread").join().expect("the call does not end")
+    })
+}
+
+/// Bytes from their text: parts with a comma between them, each `-` for none, or base 16, with `*` and how often they stand there.
+fn parse(text: &str) -> Vec<u8> {
+    text.split(',').flat_map(part).collect()
+}
+
+fn part(text: &str) -> Vec<u8> {
+    let (once, times) = text.split_once('*').unwrap_or((text.trim_matches('-'), "1"));
+    let byte = |i: usize| u8::from_str_radix(&once[i..i + 2], 16).expect("not base 16");
+    let bytes: Vec<u8> = (0..once.len()).step_by(2).map(byte).collect();
+    bytes.repeat(number(times))
+}
+
+fn number(text: &str) -> usize {
+    text.parse().expect("not a number")
+}
+
+/// A store of so many bytes, all the filler.
+fn lent(size: &str) -> Vec<u8> {
+    vec![FILLER; number(size)]
+}
+
+/// A store begins with what is expected, and all other bytes are as they were.
+fn holds(store: &[u8], expected: &[u8]) -> bool {
+    store.starts_with(expected) && store[expected.len()..].iter().all(|&b| b == FILLER)
+}
+
+/// An answer in words.
+fn told<T>(answer: Result<T, Refusal>, words: impl FnOnce(T) -> String) -> String {
+    match answer {
+        Ok(value) => words(value),
+        Err(refusal) => format!("refused:{}", refusal as u8),
+    }
+}
+
+fn verdict(v: Verdict) -> String {
+    match v {
+        Verdict::Clear => "clear".into(),
+        Verdict::Long => "long".into(),
+        Verdict::Found(n) => format!("found:{n}"),
+    }
+}
+
+fn last(l: Last) -> String {
+    format!("{}:{}", if l.target { "target" } else { "state" }, l.state)
+}
+
+/// What is expected of a store, by a word: `?` for anything, `=` for the record, no word for no bytes.
+fn expects(word: Option<&&str>, record: &[u8], store: &[u8]) -> bool {
+    match word {
+        Some(&"?") => true,
+        Some(&"=") => holds(store, record),
+        Some(text) => holds(store, &parse(text)),
+        None => holds(store, &[]),
+    }
+}
+
+/// A judgement. The table of a verdict is the one that `lines` fills, and replay finds that its schedule reaches the target.
+fn judged(record: &[u8], word: &[&str], stack: usize) -> bool {
+    let (mut table, mut found, mut again) = (lent(word[0]), lent(word[1]), lent(word[0]));
+    let answer = on_thread(stack, || turncheck::judge(record, &mut table, &mut found));
+    let stored = expects(word.get(3), record, &table) && expects(word.get(4), record, &found);
+    if told(answer, verdict) != word[2] || !stored {
+        return false;
+    }
+    let Ok(v) = answer else { return true };
+    let steps = if let Verdict::Found(n) = v { n } else { 0 };
+    let schedule = &found[..2 * steps];
+    let reaches = || on_thread(stack, || turncheck::replay(record, schedule)).is_ok_and(|l| l.target);
+    on_thread(stack, || turncheck::lines(record, &mut again)).is_ok()
+        && again == table
+        && holds(&found, schedule)
+        && (v != Verdict::Found(steps) || reaches())
+}
+
+/// One case, by its words: the call, what is lent beside the record, the answer, what the stores then hold.
+fn agrees(record: &[u8], word: &[&str], stack: usize) -> bool {
+    match word[0] {
+        "read" => told(on_thread(stack, || turncheck::read(record)), |()| "accepted".into()) == word[1],
+        "replay" => {
+            let schedule = parse(word[1]);
+            told(on_thread(stack, || turncheck::replay(record, &schedule)), last) == word[2]
+        }
+        "write" => {
+            let mut store = lent(word[1]);
+            let answer = on_thread(stack, || turncheck::write(record, &mut store));
+            told(answer, |n| format!("length:{n}")) == word[2] && expects(word.get(3), record, &store)
+        }
+        "lines" => {
+            let mut store = lent(word[1]);
+            let answer = on_thread(stack, || turncheck::lines(record, &mut store));
+            told(answer, |()| "done".into()) == word[2] && expects(word.get(3), record, &store)
+        }
+        "judge" => judged(record, &word[1..], stack),
+        other => panic!("no such call: {other}"),
+    }
+}
+
+fn main() {
+    let arguments: Vec<String> = std::env::args().collect();
+    let [_, file, size] = &arguments[..] else { panic!("usage: cases FILE KB") };
+    let text = std::fs::read_to_string(file).expect("no such file");
+    let stack = number(size) * 1024;
+    let (mut record, mut compared, mut differ) = (Vec::new(), 0, 0);
+    for line in text.lines() {
+        let word: Vec<&str> = line.split_whitespace().collect();
+        if word.is_empty() || word[0].starts_with('#') {
+            continue;
+        }
+        if word[0] == "record" {
+            record = parse(word[1]);
+            continue;
+        }
+        compared += 1;
+        if !agrees(&record, &word, stack) {
+            differ += 1;
+            println!("differs: {:.60}", line);
+        }
+    }
+    println!("{compared} compared, {differ} differ");
+    if differ != 0 || compared == 0 {
+        std::process::exit(1);
+    }
+}

@@ -1,0 +1,80 @@
+-- `turncheck_write` meets its contract: the number is that of the reader or of the writer, whose length is that of a record.
+use borrow.Author.Needs.{needs}
+use mathlib.Core.Path.{refl, sym, ap, _∙_}
+use native.Mathlib.Omega.{arith}
+use Rattle.ffi.specs.Numbers.{writtenNumber}
+use Rattle.ffi.proofs.Records.{of-model, of-refusal, short}
+use Rattle.ffi.proofs.turncheck_write.Statement.{statement}
+use Rattle.ffi.proofs.turncheck_write.Tie as tie
+
+read-requires : tie.Need-read-requires
+read-requires c κs = search needs
+
+enum-told : tie.Need-enum-told
+enum-told c = search needs
+
+write-requires : tie.Need-write-requires
+write-requires c κs = search needs
+
+enum-known-n : tie.Need-enum-known-n
+enum-known-n c = search needs
+
+add-result : tie.Need-add-result
+add-result c =
+    let kept = rw (c .before .before .before .before .before .before .before .enum-told .given .1) at (c .before .before .before .before .before .before .before .before .before .read .ensures .1) in
+    omega (arith, short _ _ (kept .valid) (c .before .before .before .before .before .write .ensures .0) (c .before .n .given .1))
+
+enum-known-n-2 : tie.Need-enum-known-n-2
+enum-known-n-2 c = search needs
+
+cast-result : tie.Need-cast-result
+cast-result c = search needs
+
+enum-known-answer : tie.Need-enum-known-answer
+enum-known-answer c = search needs
+
+cast-result-2 : tie.Need-cast-result-2
+cast-result-2 c = search needs
+
+same-length : tie.Need-same-length
+same-length c = search needs
+
+returns : tie.Need-returns
+returns c =
+    let arm = c .before .before .before .before .before .before .before in
+    let wrote = c .before .before .before .before .before .write .ensures in
+    of-model _ (arm .before .before .read .ensures .0) (arm .enum-told .given .1)
+    (ap writtenNumber (sym (c .before .n .given .1) ∙ wrote .0), wrote .1)
+
+same-length-2 : tie.Need-same-length-2
+same-length-2 c = search needs
+
+returns-2 : tie.Need-returns-2
+returns-2 c =
+    let arm = c .before .before .before .before .before .before .before in
+    let wrote = c .before .before .before .before .before .write .ensures in
+    of-model _ (arm .before .before .read .ensures .0) (arm .enum-told .given .1)
+    (ap writtenNumber (sym (c .before .n2 .given .1) ∙ wrote .0), wrote .1)
+
+returns-3 : tie.Need-returns-3
+returns-3 c =
+    of-refusal _ (c .before .before .before .read .ensures .0) (c .before .answer .given .1) (refl, refl)
+
+pub turncheck-write-spec : {M : Type 1} → statement M
+turncheck-write-spec =
+    tie.close
+    (tie.spec
+    read-requires
+    enum-told
+    write-requires
+    enum-known-n
+    add-result
+    enum-known-n-2
+    cast-result
+    enum-known-answer
+    cast-result-2
+    same-length
+    returns
+    same-length-2
+    returns-2
+    returns-3)

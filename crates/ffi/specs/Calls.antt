@@ -1,0 +1,52 @@
+-- What each call answers for the bytes of a record, and what each lent store then holds.
+use mathlib.Core.List.{List}
+use mathlib.Core.Path.{_≡_}
+use Prim.Native.Nat.{ℕ}
+use lib.ListN.{length}
+use Rattle.model.specs.declared.Model.{Model}
+use Rattle.record.specs.Reader.{Read, refused, value, readOf}
+use Rattle.record.specs.Written.{writtenOf, storeOf}
+use Rattle.reach.specs.Answer.{outcomeOf, Leaves}
+use Rattle.replay.specs.Replay.{replayOf}
+use Rattle.judge.specs.declared.Judgement.{Judgement}
+use Rattle.judge.specs.Answer.{refusalOf, Answers, LeavesLines, LeavesSchedule}
+use Rattle.ffi.specs.Numbers.{writtenNumber, linesNumber, judgedNumber, replayedNumber}
+
+-- What holds by what reading comes to: one thing of a refusal's number, or another of the model.
+pub data Either (Refusal : ℕ → Type 0) (Call : Model → Type 0) : Read Model → Type 0 where
+  refusal : {n : ℕ} → Refusal n → Either Refusal Call (refused n)
+  accepted : {m : Model} {rest : List ℕ} → Call m → Either Refusal Call (value m rest)
+
+-- Reading: 0 for a whole record, else the refusal's number.
+abbrev pub Reads : List ℕ → ℕ → Type 0
+Reads bytes r = Either (λ n. r ≡ n) (λ m. r ≡ 0) (readOf bytes)
+
+-- Writing the model that was read: the writer's number, with the store as the writer leaves it.
+abbrev pub Writes : List ℕ → ℕ → List ℕ → List ℕ → Type 0
+Writes bytes r old new =
+    Either (λ n. (r ≡ n) × (new ≡ old))
+    (λ m. (r ≡ writtenNumber (writtenOf m (length old))) × (new ≡ storeOf m old)) (readOf bytes)
+
+-- The line table of the model that was read: the number of what that call answers, with the store as it leaves it.
+abbrev pub Lines : List ℕ → ℕ → List ℕ → List ℕ → Type 0
+Lines bytes r old new =
+    Either (λ n. (r ≡ n) × (new ≡ old))
+    (λ m. (r ≡ linesNumber (outcomeOf m (length old))) × Leaves m (outcomeOf m (length old)) old new) (readOf bytes)
+
+-- A right judgement on a model, with both stores as it leaves them, and its number.
+pub record Answered (m : Model) (r : ℕ) (lines linesAfter schedule scheduleAfter : List ℕ) : Type 0 where
+  pub judgement : Judgement
+  pub number : r ≡ judgedNumber judgement
+  pub right : Answers m (refusalOf m (length lines) (length schedule)) judgement
+  pub table : LeavesLines m judgement lines linesAfter
+  pub witness : LeavesSchedule m judgement schedule scheduleAfter
+
+-- Judging the model that was read.
+abbrev pub Judges : List ℕ → ℕ → List ℕ → List ℕ → List ℕ → List ℕ → Type 0
+Judges bytes r lines linesAfter schedule scheduleAfter =
+    Either (λ n. (r ≡ n) × (linesAfter ≡ lines) × (scheduleAfter ≡ schedule))
+    (λ m. Answered m r lines linesAfter schedule scheduleAfter) (readOf bytes)
+
+-- Replaying a schedule of the model that was read: the number of what replay answers.
+abbrev pub Replays : List ℕ → List ℕ → ℕ → Type 0
+Replays bytes schedule r = Either (λ n. r ≡ n) (λ m. r ≡ replayedNumber (replayOf m schedule)) (readOf bytes)
