@@ -1,4 +1,4 @@
--- A plan: what the writers need of a thread and of its line, as bytes. They are called thousands of levels deep, and a thread
+-- A plan: what the writers need of a thread and of its line, as bytes. They may nest a thousand levels deep and more, and a thread
 -- by value at each level would not fit the stack.
 use mathlib.Core.Bool.{cond}
 use mathlib.Core.List.{List, [], _∷_}

@@ -2,12 +2,13 @@
 -- take no step, and the call of the pair writer, which takes none either, fit between. In an answer, c4 is what was known four
 -- steps before c.
 use mathlib.Core.Path.{refl, sym, ap}
-use Prim.Native.Nat.{ℕ, _+_, _*_, _-_, _<_}
+use Prim.Native.Nat.{ℕ, _+_, _*_, _-_, _≤_, _<_}
 use native.Mathlib.Omega.{arith}
 use borrow.Author.Needs.{needs}
 use borrow.Fn.Kinds.{In}
 use borrow.Fn.PlainCycle.{Measures, is, falls, and}
 use Rattle.witness.specs.declared.goal.Goal.{Goal}
+use Rattle.witness.specs.Plan.{rulesIn}
 use Rattle.witness.proofs.Sayings.{no-way, gone-ready, rest-ready, one-ready, two-ready, turn-ready}
 use Rattle.witness.proofs.Writers.{low-rule, part-low, stopped, turned, removed, swapped, pushed, kept, parted}
 use Rattle.witness.proofs.stretch.pair.Reads as pair
@@ -83,6 +84,18 @@ stretch-calls t = (
   pair.Post,
 )
 
+-- The first part of a pair has no more steps than the pair.
+part : (t : ℕ) (c : pair-lts.After-entry-of (pair-calls t) (pair-at t) pair.Post)
+    → c .entry-of .result ≤ c .before .before .before .before .before .before .before .before .before .args .count
+part t c =
+    part-low _ _ _ _ (rw (c .before .gone-at .ensures) at (c .entry-of .ensures))
+    (c .before .before .before .middle .ensures .0 (c .before .before .if2 .taken) .1)
+
+-- The rule that is written is one of the plan's.
+listed : (t : ℕ) (c : stretch-lts.Else2 (stretch-calls t) (stretch-at t) stretch.Post)
+    → c .before .before .first-rule .result < rulesIn (c .before .before .before .before .before .before .before .args .plan .now)
+listed t c = low-rule _ _ _ (c .before .before .first-rule .ensures .1 .1) (c .before .byte .ensures .0) (c .if2 .left)
+
 pair-above-requires : (t : ℕ) → pair-lts.Need-above-requires (pair-calls t) (pair-at t) pair.Post
 pair-above-requires t c κs = search needs
 
@@ -113,56 +126,34 @@ pair-entry-of-requires t c κs =
 
 pair-stretch-requires-2 : (t : ℕ) → pair-lts.Need-stretch-requires-2 (pair-calls t) (pair-at t) pair.Post
 pair-stretch-requires-2 t c κs =
-    let c4 = c .before .before .before .before in
-    let c10 = c4 .before .before .before .before .before .before in
-    let p = c10 .pre in
+    let p = c .before .before .before .before .before .before .before .before .before .before .pre in
     let R = gone-ready (p .1 .0) _ (c .before .before .before .if2 .taken) (c .before .before .gone-at .ensures) in
-    let l = part-low _ _ _ _ (rw (c .before .before .gone-at .ensures) at (c .before .entry-of .ensures))
-    (c4 .middle .ensures .0 (c .before .before .before .if2 .taken) .1) in
+    let l = part t (c .before) in
     (omega (arith, p .0, R .goal .until), (R, (omega arith, omega arith)))
 
 pair-rest-at-requires : (t : ℕ) → pair-lts.Need-rest-at-requires (pair-calls t) (pair-at t) pair.Post
 pair-rest-at-requires t c κs = search needs
 
 pair-sub-stretch : (t : ℕ) → pair-lts.Need-sub-stretch (pair-calls t) (pair-at t) pair.Post
-pair-sub-stretch t c =
-    let c5 = c .before .before .before .before .before in
-    let c6 = c5 .before in
-    let c7 = c6 .before in
-    let c8 = c7 .before in
-    part-low _ _ _ _ (rw (c6 .gone-at .ensures) at (c5 .entry-of .ensures)) (c8 .middle .ensures .0 (c7 .if2 .taken) .1)
+pair-sub-stretch t c = part t (c .before .before .before .before .before)
 
 pair-mul-stretch : (t : ℕ) → pair-lts.Need-mul-stretch (pair-calls t) (pair-at t) pair.Post
 pair-mul-stretch t c =
     let c6 = c .before .before .before .before .before .before in
-    let c7 = c6 .before in
-    let c8 = c7 .before in
-    let c9 = c8 .before in
-    let c15 = c9 .before .before .before .before .before .before in
-    let l = part-low _ _ _ _ (rw (c7 .gone-at .ensures) at (c6 .entry-of .ensures))
-    (c9 .middle .ensures .0 (c8 .if2 .taken) .1) in
-    record { fits = omega (arith, l, c15 .pre .1 .1 .1) }
+    record { fits = omega (arith, part t c6, c6 .before .before .before .before .before .before .before .before .before .pre .1 .1 .1) }
 
 pair-add-stretch : (t : ℕ) → pair-lts.Need-add-stretch (pair-calls t) (pair-at t) pair.Post
 pair-add-stretch t c =
     let c6 = c .before .before .before .before .before .before in
-    let c7 = c6 .before in
-    let c8 = c7 .before in
-    let c9 = c8 .before in
-    let c15 = c9 .before .before .before .before .before .before in
-    let l = part-low _ _ _ _ (rw (c7 .gone-at .ensures) at (c6 .entry-of .ensures))
-    (c9 .middle .ensures .0 (c8 .if2 .taken) .1) in
-    record { fits = omega (arith, l, c15 .pre .1 .1 .2, c15 .good .1 .1 .1 .1 .1 .0 .0) }
+    let c15 = c6 .before .before .before .before .before .before .before .before .before in
+    record { fits = omega (arith, part t c6, c15 .pre .1 .1 .2, c15 .good .1 .1 .1 .1 .1 .0 .0) }
 
 pair-stretch-requires-3 : (t : ℕ) → pair-lts.Need-stretch-requires-3 (pair-calls t) (pair-at t) pair.Post
 pair-stretch-requires-3 t c κs =
     let p = c .before .before .before .before .before .before .before .before .before .before .before .before .before .before .before .pre in
     let R = rest-ready (p .1 .0) _ (p .1 .1 .0) (c .before .before .before .before .before .before .before .before .if2 .taken)
     (c .before .rest-at .ensures) in
-    let l = part-low _ _ _ _
-    (rw (c .before .before .before .before .before .before .before .gone-at .ensures) at (c .before .before .before .before .before .before .entry-of .ensures))
-    (c .before .before .before .before .before .before .before .before .before .middle .ensures .0
-    (c .before .before .before .before .before .before .before .before .if2 .taken) .1) in
+    let l = part t (c .before .before .before .before .before .before) in
     (omega (arith, p .0, R .goal .until), (R, (omega arith, omega arith)))
 
 pair-same-length-2 : (t : ℕ) → pair-lts.Need-same-length-2 (pair-calls t) (pair-at t) pair.Post
@@ -245,23 +236,9 @@ stretch-returns-3 t c =
 
 stretch-put-step-requires : (t : ℕ) → stretch-lts.Need-put-step-requires (stretch-calls t) (stretch-at t) stretch.Post
 stretch-put-step-requires t c κs =
-    let c4 = c .before .before .before .before in
-    let c8 = c4 .before .before .before .before in
-    let p = c8 .pre in (
-      p .1 .0 .range,
-      (
-        p .1 .0 .goal .passed,
-        omega (
-          arith,
-          c .before .before .before .first-rule .ensures .1 .1,
-          c .before .before .byte .ensures .0,
-          c .before .if2
-              .left,
-          p .1 .0 .range .count,
-        ),
-        omega (arith, p .1 .1 .1, c4 .if1 .left),
-      ),
-    )
+    let p = c .before .before .before .before .before .before .before .before .pre in
+    let l = listed t (c .before) in
+    (p .1 .0 .range, (p .1 .0 .goal .passed, omega (arith, p .1 .0 .range .count), omega (arith, p .1 .1 .1, c .before .before .before .before .if1 .left)))
 
 stretch-after-step-requires : (t : ℕ) → stretch-lts.Need-after-step-requires (stretch-calls t) (stretch-at t) stretch.Post
 stretch-after-step-requires t c κs = search needs
@@ -280,14 +257,9 @@ stretch-add-stretch t c = search needs
 
 stretch-stretch-requires-2 : (t : ℕ) → stretch-lts.Need-stretch-requires-2 (stretch-calls t) (stretch-at t) stretch.Post
 stretch-stretch-requires-2 t c κs =
-    let c4 = c .before .before .before .before in
-    let c9 = c4 .before .before .before .before .before in
-    let c10 = c9 .before in
-    let c11 = c10 .before in
-    let c16 = c11 .before .before .before .before .before in
-    let p = c16 .pre in
-    let l = low-rule _ _ _ (c11 .first-rule .ensures .1 .1) (c10 .byte .ensures .0) (c9 .if2 .left) in
-    let R = one-ready (p .1 .0) _ l (rw (c .before .before .next .given .1) at (c4 .after-step .ensures)) in
+    let p = c .before .before .before .before .before .before .before .before .before .before .before .before .before .before .before .before .pre in
+    let R = one-ready (p .1 .0) _ (listed t (c .before .before .before .before .before .before .before .before .before))
+    (rw (c .before .before .next .given .1) at (c .before .before .before .before .after-step .ensures)) in
     (omega (arith, p .0, R .goal .until), (R, (omega arith, omega arith)))
 
 stretch-enum-known-next-2 : (t : ℕ) → stretch-lts.Need-enum-known-next-2 (stretch-calls t) (stretch-at t) stretch.Post
@@ -304,14 +276,9 @@ stretch-add-pair t c =
 
 stretch-pair-requires : (t : ℕ) → stretch-lts.Need-pair-requires (stretch-calls t) (stretch-at t) stretch.Post
 stretch-pair-requires t c κs =
-    let c4 = c .before .before .before .before in
-    let c9 = c4 .before .before .before .before .before in
-    let c10 = c9 .before in
-    let c11 = c10 .before in
-    let c16 = c11 .before .before .before .before .before in
-    let p = c16 .pre in
-    let l = low-rule _ _ _ (c11 .first-rule .ensures .1 .1) (c10 .byte .ensures .0) (c9 .if2 .left) in
-    let R = two-ready (p .1 .0) _ l (rw (c .before .before .next2 .given .1) at (c4 .after-step .ensures)) in
+    let p = c .before .before .before .before .before .before .before .before .before .before .before .before .before .before .before .before .pre in
+    let R = two-ready (p .1 .0) _ (listed t (c .before .before .before .before .before .before .before .before .before))
+    (rw (c .before .before .next2 .given .1) at (c .before .before .before .before .after-step .ensures)) in
     (omega (arith, p .0), (R .0, (R .1, omega arith, omega arith)))
 
 stretch-same-length-2 : (t : ℕ) → stretch-lts.Need-same-length-2 (stretch-calls t) (stretch-at t) stretch.Post
@@ -319,48 +286,32 @@ stretch-same-length-2 t c = search needs
 
 stretch-returns-4 : (t : ℕ) → stretch-lts.Need-returns-4 (stretch-calls t) (stretch-at t) stretch.Post
 stretch-returns-4 t c =
-    let c5 = c .before .before .before .before .before in
-    let c7 = c5 .before .before in
-    let c8 = c7 .before in
-    let c9 = c8 .before in
-    let c10 = c9 .before in
-    λ w d s e. let l = low-rule _ _ _ (c9 .first-rule .ensures .1 .1) (c8 .byte .ensures .0) (c7 .if2 .left) in removed w s
-    (omega (arith, c10 .if1 .left)) _ l (c9 .first-rule .ensures .0 l)
-    (rw (c .enum-told .given .1) at (c .before .before .after-step .ensures)) (c5 .put-step .ensures)
+    let c7 = c .before .before .before .before .before .before .before in
+    let l = listed t c7 in
+    λ w d s e. removed w s (omega (arith, c7 .before .before .before .if1 .left)) _ l (c7 .before .before .first-rule .ensures .0 l)
+    (rw (c .enum-told .given .1) at (c .before .before .after-step .ensures)) (c .before .before .before .before .before .put-step .ensures)
 
 stretch-same-length-3 : (t : ℕ) → stretch-lts.Need-same-length-3 (stretch-calls t) (stretch-at t) stretch.Post
 stretch-same-length-3 t c = search needs
 
 stretch-returns-5 : (t : ℕ) → stretch-lts.Need-returns-5 (stretch-calls t) (stretch-at t) stretch.Post
 stretch-returns-5 t c =
-    let c5 = c .before .before .before .before .before in
-    let c7 = c5 .before .before in
-    let c10 = c7 .before .before .before in
-    let c12 = c10 .before .before in
-    let c13 = c12 .before in
-    let c14 = c13 .before in
-    let c15 = c14 .before in
-    λ w d s e. let l = low-rule _ _ _ (c14 .first-rule .ensures .1 .1) (c13 .byte .ensures .0) (c12 .if2 .left) in let k = rw
-    (c5 .next .given .1) at (c7 .after-step .ensures) in swapped w s (omega (arith, c15 .if1 .left)) _ l
-    (c14 .first-rule .ensures .0 l) (k .0) (k .1)
-    (λ q f. rw (k .2, c10 .put-step .ensures) at (c .before .before .stretch2 .ensures) w d q f)
+    let c12 = c .before .before .before .before .before .before .before .before .before .before .before .before in
+    let l = listed t c12 in
+    let k = rw (c .before .before .before .before .before .next .given .1) at (c .before .before .before .before .before .before .before .after-step .ensures) in
+    λ w d s e. swapped w s (omega (arith, c12 .before .before .before .if1 .left)) _ l (c12 .before .before .first-rule .ensures .0 l)
+    (k .0) (k .1) (λ q f. rw (k .2, c .before .before .before .before .before .before .before .before .before .before .put-step .ensures) at (c .before .before .stretch2 .ensures) w d q f)
 
 stretch-same-length-4 : (t : ℕ) → stretch-lts.Need-same-length-4 (stretch-calls t) (stretch-at t) stretch.Post
 stretch-same-length-4 t c = search needs
 
 stretch-returns-6 : (t : ℕ) → stretch-lts.Need-returns-6 (stretch-calls t) (stretch-at t) stretch.Post
 stretch-returns-6 t c =
-    let c5 = c .before .before .before .before .before in
-    let c7 = c5 .before .before in
-    let c10 = c7 .before .before .before in
-    let c12 = c10 .before .before in
-    let c13 = c12 .before in
-    let c14 = c13 .before in
-    let c15 = c14 .before in
-    λ w d s e. let l = low-rule _ _ _ (c14 .first-rule .ensures .1 .1) (c13 .byte .ensures .0) (c12 .if2 .left) in let k = rw
-    (c5 .next2 .given .1) at (c7 .after-step .ensures) in pushed w s (omega (arith, c15 .if1 .left)) _ l
-    (c14 .first-rule .ensures .0 l) (k .0) (k .1) (k .2)
-    (λ q f. rw (k .3, k .4, c10 .put-step .ensures) at (c .before .before .pair .ensures) w d q f)
+    let c12 = c .before .before .before .before .before .before .before .before .before .before .before .before in
+    let l = listed t c12 in
+    let k = rw (c .before .before .before .before .before .next2 .given .1) at (c .before .before .before .before .before .before .before .after-step .ensures) in
+    λ w d s e. pushed w s (omega (arith, c12 .before .before .before .if1 .left)) _ l (c12 .before .before .first-rule .ensures .0 l)
+    (k .0) (k .1) (k .2) (λ q f. rw (k .3, k .4, c .before .before .before .before .before .before .before .before .before .before .put-step .ensures) at (c .before .before .pair .ensures) w d q f)
 
 pub +pair+stretch-spec : {M : Type 1} → statement M
 +pair+stretch-spec = close μ-pair μ-stretch (λ t. pair-lts.spec (pair-calls t)
