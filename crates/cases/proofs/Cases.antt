@@ -11,6 +11,7 @@ use Rattle.model.specs.declared.Model.{Model}
 use Rattle.model.specs.declared.Shared.{Shared}
 use Rattle.model.specs.Lines.{powers, lineFrom, digits}
 use Rattle.model.specs.Rules.{applies}
+use Rattle.model.specs.Schedules.{stepsOf}
 use Rattle.model.specs.Valid.{Valid, firstOf, headFault, symbolFault, rightFault, ruleFault, threadFault, faultOf}
 use Rattle.model.specs.Verdict.{found, Judged}
 use Rattle.model.specs.Walk.{walk, stepFrom, fire, turnFits}
@@ -21,7 +22,7 @@ use Rattle.model.proofs.Stores.{length-bytes}
 use Rattle.record.specs.Reader.{Read, refused, value, readOf, front, head, byte, ranged, field, right, rule, ruleList, rules}
 use Rattle.replay.specs.declared.Replayed.{Replayed}
 use Rattle.replay.specs.declared.Replayed.the-variants as replayed
-use Rattle.replay.specs.Replay.{replayOf, stepsOf, sizeFits}
+use Rattle.replay.specs.Replay.{replayOf, sizeFits}
 use Rattle.replay.proofs.Accepts.{accepts}
 use Rattle.cases.specs.Cases.{cases}
 use Rattle.cases.specs.Claims.{Table, ungiven, given, Answer, Refused, Clear, Found, Case, Scheduled, Lined, ClaimsOf, Claims}
@@ -80,14 +81,15 @@ scheduled : (m : Model) (n : ℕ) (schedule : List ℕ) → length schedule ≡ 
     → Scheduled m n schedule
 scheduled m n schedule e h =
     let same = accepted (m .target) (replayOf m schedule) h in
-    let l = accepts m schedule (m .target) true .0 same in
-    record {
-      steps = l .steps;
-      stored = l .bytes;
-      reaches = l .leads;
-      count = omega (arith, length-bytes (l .steps), ap length (l .bytes), e);
-      replayed = same;
-    }
+    let l = accepts m schedule (m .target) true .0 same in (
+      record {
+        steps = l .steps;
+        run = l .leads;
+        count = omega (arith, length-bytes (l .steps), ap length (l .bytes), e);
+        shown = l .bytes;
+      },
+      same,
+    )
 
 -- The verdict, and all else that is claimed of a model that was read.
 judged : (bytes : List ℕ) (m : Model) → readOf bytes ≡ value m [] → Valid m → (a : Answer) → T (judges m a) → ClaimsOf bytes a
@@ -105,7 +107,7 @@ judged bytes m e v (Found n schedule t) h =
     let s = scheduled m n schedule (w .0 .1) (w .1) in
     let least = delays-least m n set (c .0) n (valid-fits m .0 v .k .0) (c .1) in
     let shortest : Judged m (found n) =
-    (w .0 .0 .1, record { schedule = s .steps; reaches = s .reaches; steps = s .count; least = least }) in
+    (w .0 .0 .1, record { schedule = s .0 .steps; reaches = s .0 .run; steps = s .0 .count; least = least }) in
     record { model = m; read = e; valid = v; holds = (shortest, s, lines-right m n set (c .0) t (w .0 .0 .0 .1)) }
 
 -- The record.

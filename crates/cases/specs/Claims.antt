@@ -7,9 +7,9 @@ use Prim.Native.Nat.{ℕ}
 use lib.ListN.{length, replicate}
 use Rattle.model.specs.declared.Model.{Model}
 use Rattle.model.specs.Runs.{Reaches}
+use Rattle.model.specs.Schedules.{bytesOf, Shown}
 use Rattle.model.specs.Valid.{Valid}
 use Rattle.model.specs.Verdict.{clear, found, Judged}
-use Rattle.model.specs.Walk.{Step, bytesOf}
 use Rattle.reach.specs.Answer.{LineTable}
 use Rattle.reach.specs.Bits.{bytesFor}
 use Rattle.record.specs.Reader.{refused, value, readOf}
@@ -40,12 +40,9 @@ pub record Accepts (bytes : List ℕ) (Holds : Model → Type 0) : Type 0 where
   pub holds : Holds model
 
 -- Bytes are a schedule of n steps that reaches the target, and replay says so.
-pub record Scheduled (m : Model) (n : ℕ) (bytes : List ℕ) : Type 0 where
-  pub steps : List Step
-  pub stored : bytes ≡ bytesOf steps
-  pub reaches : Reaches m steps
-  pub count : length steps ≡ n
-  pub replayed : replayOf m bytes ≡ Accepted (m .target) true
+abbrev pub Scheduled : Model → ℕ → List ℕ → Type 0
+Scheduled m n bytes =
+    Shown (Reaches m) n (λ ss. bytes ≡ bytesOf ss) × (replayOf m bytes ≡ Accepted (m .target) true)
 
 -- Where bytes are given, they are just as many as the line table of a model has, and a store of zeros comes to hold them.
 abbrev pub Lined : Model → Table → Type 0

@@ -10,6 +10,7 @@ use lib.Dec.{T, leb, ltb, eqb}
 use Rattle.model.specs.declared.Model.{Model}
 use Rattle.model.specs.Fits.{Fits}
 use Rattle.model.specs.Rules.{applies}
+use Rattle.model.specs.Schedules.{stepsOf}
 use Rattle.model.specs.Valid.{Valid, refuse, firstOf}
 use Rattle.model.specs.Walk.{Step, Config, Walked, refused, arrived, need, andThen, turnFits, after, fire, stepFrom, walk, ownerOf, threadOf, stackOf, startOf}
 use Rattle.model.proofs.Inside.{applies-iff, fits-of}
@@ -20,7 +21,7 @@ use Rattle.judge.specs.declared.Judgement.the-variants as judgement
 use Rattle.judge.specs.Answer.{refusalOf, Answers}
 use Rattle.replay.specs.declared.Replayed.{Replayed}
 use Rattle.replay.specs.declared.Replayed.the-variants as replayed
-use Rattle.replay.specs.Replay.{stepsOf, sizeFits, answer, replayOf}
+use Rattle.replay.specs.Replay.{sizeFits, answer, replayOf}
 use Rattle.ffi.specs.Numbers.{judgedNumber, reachedBase, replayedNumber}
 
 -- The judgement that a number says.

@@ -7,7 +7,8 @@ use Prim.Native.Nat.{ℕ, zero, suc, _≤_, _<_, _/_}
 use native.Mathlib.Omega.{arith}
 use lib.Dec.{ltb, eqb}
 use Rattle.model.specs.declared.Model.{Model}
-use Rattle.record.specs.Reader.{Read, refused, value, andThen, need, bit, inRange, byte, ranged, field, ruleMap, right, rule, ruleList, rules, head, front, ended, readOf}
+use Rattle.model.specs.Bits.{bit}
+use Rattle.record.specs.Reader.{Read, refused, value, andThen, need, inRange, byte, ranged, field, ruleMap, right, rule, ruleList, rules, head, front, ended, readOf}
 
 -- A number that refuses a record.
 abbrev Low : ℕ → Type 0

@@ -8,14 +8,15 @@ use native.Mathlib.Omega.{arith}
 use borrow.Author.Tests.{eq-eqb}
 use lib.Dec.{leb, leb→le}
 use lib.ListN.{length, take, getD}
-use lib.Seq.{sets-eq, take-append-seam}
 use Rattle.model.specs.declared.Model.{Model}
 use Rattle.model.specs.Fits.{Fits}
 use Rattle.model.specs.Lines.{digits}
+use Rattle.model.specs.Runs.{Reaches, Turns}
+use Rattle.model.specs.Schedules.{Stored}
 use Rattle.model.specs.Valid.{refuse, Valid}
-use Rattle.model.specs.Walk.{A, B, bytesOf}
+use Rattle.model.specs.Walk.{A, B, startStacks}
 use Rattle.model.proofs.Ranges.{valid-fits}
-use Rattle.model.proofs.Stores.{length-bytes}
+use Rattle.model.proofs.Stores.{stored-front}
 use Rattle.reach.specs.Answer.{lineRefusal}
 use Rattle.reach.specs.Cost.{BothCosts}
 use Rattle.reach.proofs.Answers.{nothing, untroubled, good}
@@ -24,10 +25,10 @@ use Rattle.reach.proofs.Marks.{line-cost}
 use Rattle.replay.specs.declared.Replayed.the-variants.{Accepted}
 use Rattle.replay.specs.Replay.{replayOf}
 use Rattle.replay.proofs.Accepts.{accepts}
-use Rattle.witness.specs.Written.{Chosen, Written}
+use Rattle.witness.specs.Chosen.{Chosen}
 use Rattle.judge.specs.declared.Choice.{Choice}
 use Rattle.judge.specs.declared.Judgement.the-variants.{Found}
-use Rattle.judge.specs.Answer.{refusalOf, Answers, Scheduled}
+use Rattle.judge.specs.Answer.{refusalOf, Answers}
 use Rattle.judge.specs.Best.{Best}
 use Rattle.judge.proofs.Answers.{checks}
 use Rattle.judge.proofs.Reaching.{run-reaches}
@@ -57,36 +58,33 @@ module _ {m : Model} (f : Fits m) {a b : List ℕ} {c : Choice}
 
   -- What it has written.
   pub best-scheduled : {n : ℕ} {old new : List ℕ} → n ≡ getD a (c .line) 0 + getD b (c .line) 0
-      → Written m (digits (m .g) (2 * m .k) (c .line)) n old new → Scheduled m (c .steps) old new
+      → Stored (Turns m 0 (m .start .0) (startStacks m) (digits (m .g) (2 * m .k) (c .line))) n 0 old new
+      → Stored (Reaches m) (c .steps) 0 old new
   best-scheduled e w =
       let o = best .some (omega arith) .0 in
       record {
         steps = w .steps;
-        reaches = run-reaches f (o .low) (o .ends) (w .run);
+        run = run-reaches f (o .low) (o .ends) (w .run);
         count = w .count ∙ (e ∙ best-steps);
-        stored = w .stored;
+        shown = w .shown;
       }
 
 -- Replay accepts a schedule that stands in a store with room for it, and says that it reaches the target.
 pub replayed : (m : Model) {n : ℕ} {old new : List ℕ} → Valid m → n ≤ 4095 → 2 * n ≤ length old
-    → Scheduled m n old new → replayOf m (take (2 * n) new) ≡ Accepted (m .target) true
+    → Stored (Reaches m) n 0 old new → replayOf m (take (2 * n) new) ≡ Accepted (m .target) true
 replayed m {n} {old} {new} v most room s =
-    let bytes : List ℕ = bytesOf (s .steps) in
-    let size : length bytes ≡ 2 * n = length-bytes (s .steps) ∙ rw (s .count) in
-    let front : take (2 * n) new ≡ bytes =
-    rw (s .stored, ← size, sets-eq bytes old 0 (omega arith)) (take-append-seam bytes _) in
     accepts m (take (2 * n) new) (m .target) true .1 (record {
       valid = v;
       steps = s .steps;
-      bytes = front;
+      bytes = stored-front s room;
       most = omega (arith, s .count);
-      leads = s .reaches;
+      leads = s .run;
       target = sym (eq-eqb (m .target .0) (m .target .0) refl);
     })
 
 -- Where the judge says Found n, replay accepts the first 2n bytes of the schedule store, and says that they reach the target.
 pub found-replayed : (m : Model) (lines : ℕ) {n : ℕ} {old new : List ℕ}
-    → Answers m (refusalOf m lines (length old)) (Found n) → Scheduled m n old new
+    → Answers m (refusalOf m lines (length old)) (Found n) → Stored (Reaches m) n 0 old new
     → replayOf m (take (2 * n) new) ≡ Accepted (m .target) true
 found-replayed m lines {n} {old} a s =
     let all = sym (checks m lines (length old) refl ∙ a .0) in

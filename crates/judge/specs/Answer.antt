@@ -4,13 +4,11 @@ use mathlib.Core.List.{List, [], _∷_}
 use mathlib.Core.Path.{_≡_}
 use Prim.Native.Nat.{ℕ, _<_}
 use lib.Dec.{leb}
-use lib.ListN.{length}
-use lib.Seq.{sets}
 use Rattle.model.specs.declared.Model.{Model}
 use Rattle.model.specs.Runs.{Reaches}
+use Rattle.model.specs.Schedules.{Stored}
 use Rattle.model.specs.Valid.{refuse, firstOf, faultOf}
 use Rattle.model.specs.Verdict.{clear, long, found, Judged}
-use Rattle.model.specs.Walk.{Step, bytesOf}
 use Rattle.reach.specs.Answer.{LineTable}
 use Rattle.reach.specs.Bits.{bytesFor}
 use Rattle.judge.specs.declared.Judgement.{Judgement}
@@ -36,16 +34,10 @@ LeavesLines m Long old new = LineTable m old new
 LeavesLines m (Found s) old new = LineTable m old new
 LeavesLines m (Refused r) old new = new ≡ old
 
--- A store whose first bytes are a schedule of n steps that reaches the target; the bytes beyond are as they were.
-pub record Scheduled (m : Model) (n : ℕ) (old new : List ℕ) : Type 0 where
-  pub steps : List Step
-  pub reaches : Reaches m steps
-  pub count : length steps ≡ n
-  pub stored : new ≡ sets old 0 (bytesOf steps)
-
--- What the schedule store holds after an answer: a shortest schedule where there is one of at most 4,095 steps, or what it held.
+-- What the schedule store holds after an answer: for Found a schedule of so many steps that reaches the target, at its front, with
+-- the bytes beyond as they were; or what it held.
 abbrev pub LeavesSchedule : Model → Judgement → List ℕ → List ℕ → Type 0
 LeavesSchedule m Clear old new = new ≡ old
 LeavesSchedule m Long old new = new ≡ old
-LeavesSchedule m (Found s) old new = Scheduled m s old new
+LeavesSchedule m (Found s) old new = Stored (Reaches m) s 0 old new
 LeavesSchedule m (Refused r) old new = new ≡ old

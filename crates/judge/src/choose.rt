@@ -3,7 +3,7 @@ ghost use Prim.Native.Nat.{_+_, _*_, _^_, _≤_, _<_};
 ghost use lib.ListN.{length};
 ghost use Rattle.judge.specs.Best.{Best};
 use crate::Choice;
-use reach::costs::joined;
+use reach::line::joined;
 use reach::parts::power;
 
 // The best of all full lines that end in the target; `a` and `b` hold each line's least steps of the two threads.

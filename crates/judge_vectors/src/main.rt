@@ -1,9 +1,8 @@
-// Judges document 01's models, the deepest ones we know and files of random ones, and compares: verdict, steps, line table, and
-// the schedule, which is replayed.
+// Judges document 01's models, the longest and deepest ones we know and files of random ones, and compares: verdict, steps, line
+// table, and the schedule, which is replayed.
 use vectors::Tally;
 
 mod cases;
-mod deep;
 
 // The model that a record holds is Clear.
 fn clear(bytes: &[u8]) -> bool {
@@ -54,7 +53,7 @@ fn limits() -> Tally {
 }
 
 // One case of a file after another: a record with its length, its verdict, its steps in two bytes, and the line table with its
-// length.
+// length, which is 0 where none is given.
 fn corpus(s: &[u8]) -> Tally {
     let mut t = Tally::new();
     let mut at = 0;
@@ -82,9 +81,10 @@ fn file(name: &[u8], store: &mut [u8]) {
     corpus(&store[0..n]).report(name);
 }
 
-// The files of random models.
+// The files: the models of bindings/cases.txt that double their steps, nest deepest and take longest; then random ones.
 fn files() {
     let mut store = [0u8; 370000];
+    file(b"deep.bin", &mut store);
     file(b"verdicts-1.bin", &mut store);
     file(b"verdicts-2.bin", &mut store);
 }
@@ -92,7 +92,5 @@ fn files() {
 fn main() {
     document().report(b"document 01");
     limits().report(b"stores and counts");
-    deep::doubling().report(b"doubling");
-    deep::deep().report(b"deep nesting");
     files();
 }

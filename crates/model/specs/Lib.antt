@@ -1,7 +1,9 @@
+pub mod Bits
 pub mod Fits
 pub mod Lines
 pub mod Rules
 pub mod Runs
+pub mod Schedules
 pub mod Valid
 pub mod Verdict
 pub mod Walk

@@ -65,11 +65,6 @@ pub record Step : Type 0 where
   pub turn : ℕ
   pub rule : ℕ
 
--- A schedule as bytes: two for each step, the turn number and then the rule's number.
-abbrev pub bytesOf : List Step → List ℕ
-bytesOf [] = []
-bytesOf (s ∷ ss) = s .turn ∷ s .rule ∷ bytesOf ss
-
 -- What a walk comes to: the number of a refusal, or a configuration.
 pub data Walked : Type 0 where
   refused : ℕ → Walked

@@ -8,13 +8,14 @@ use native.Mathlib.Omega.{arith}
 use lib.Dec.{T, leb, ltb}
 use lib.ListN.{getD}
 use borrow.Author.Tests.{le-leb, le-ltb, lt-ltb}
+use Rattle.model.specs.Bits.{oneIf}
 use Rattle.model.specs.Lines.{bits}
 use Rattle.model.proofs.Tests.{both, order}
 use Rattle.reach.specs.Bits.{fullAt}
-use Rattle.reach.specs.Marks.{marked, bit}
+use Rattle.reach.specs.Marks.{marked}
 
 -- A test that does not pass has the bit 0.
-unset : (m : Bool) → (T m → ⊥) → 0 ≡ bit m
+unset : (m : Bool) → (T m → ⊥) → 0 ≡ oneIf m
 unset true f = absurd (f tt)
 unset false f = refl
 
@@ -47,14 +48,14 @@ module _ (g k : ℕ) (a b : List ℕ) (p : ℕ) where
       )
 
   -- The bit of a place, by the tests in turn: there are `count` lines, and v is the full line.
-  pub bit-spare : {count : ℕ} → count ≡ bits g k → count ≤ p → 0 ≡ bit (marked g k a b p)
+  pub bit-spare : {count : ℕ} → count ≡ bits g k → count ≤ p → 0 ≡ oneIf (marked g k a b p)
   bit-spare e h = let s : bits g k ≤ p = omega arith in rw spare-place
 
   module _ {count v : ℕ} (e : count ≡ bits g k) (h : p < count) (f : v ≡ fullAt g k p) where
-    pub bit-clear : ((getD a v 0 ≤ 4096) × (getD b v 0 ≤ 4096) → ⊥) → 0 ≡ bit (marked g k a b p)
+    pub bit-clear : ((getD a v 0 ≤ 4096) × (getD b v 0 ≤ 4096) → ⊥) → 0 ≡ oneIf (marked g k a b p)
     bit-clear n =
         let s : p < bits g k = omega arith in
         unset (marked g k a b p) (λ t. n (rw f (marked-follows s .0 t)))
 
-    pub bit-set : getD a v 0 ≤ 4096 → getD b v 0 ≤ 4096 → 1 ≡ bit (marked g k a b p)
+    pub bit-set : getD a v 0 ≤ 4096 → getD b v 0 ≤ 4096 → 1 ≡ oneIf (marked g k a b p)
     bit-set l m = let s : p < bits g k = omega arith in rw (both-follow s (rw (← f) (l, m)))

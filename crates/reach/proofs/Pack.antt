@@ -6,20 +6,21 @@ use native.Mathlib.Nat.{add-zero, add-suc, suc-add, pow-zero, pow-succ', pow-le-
 use native.Mathlib.Numerals.{add-one}
 use native.Mathlib.Omega.{arith}
 use lib.Dec.{eqb}
-use Rattle.reach.specs.Marks.{bit, Holds}
+use Rattle.model.specs.Bits.{bit, oneIf}
+use Rattle.reach.specs.Marks.{Holds}
 
 -- The number of n marks from place p on, lowest bit first.
 abbrev packed : (ℕ → Bool) → ℕ → ℕ → ℕ
 packed f p zero = 0
-packed f p (suc n) = 2 * packed f (suc p) n + bit (f p)
+packed f p (suc n) = 2 * packed f (suc p) n + oneIf (f p)
 
 -- A bit is 0 or 1.
-bit-small : (b : Bool) → bit b ≤ 1
+bit-small : (b : Bool) → oneIf b ≤ 1
 bit-small true = omega arith
 bit-small false = omega arith
 
 -- The lowest bit, and the others.
-lowest : (r : ℕ) (b : Bool) → eqb ((2 * r + bit b) % 2) 1 ≡ b
+lowest : (r : ℕ) (b : Bool) → eqb ((2 * r + oneIf b) % 2) 1 ≡ b
 lowest r true = let e : (2 * r + 1) % 2 ≡ 1 = omega arith in rw e
 lowest r false = let e : (2 * r + 0) % 2 ≡ 0 = omega arith in rw e
 
@@ -27,7 +28,7 @@ others : (r x : ℕ) → x ≤ 1 → (2 * r + x) / 2 ≡ r
 others r x h = omega arith
 
 -- Bit j of the number is mark j.
-bit-packed : (f : ℕ → Bool) (n p j : ℕ) → j < n → eqb (packed f p n / 2 ^ j % 2) 1 ≡ f (p + j)
+bit-packed : (f : ℕ → Bool) (n p j : ℕ) → j < n → bit j (packed f p n) ≡ f (p + j)
 bit-packed f zero p j h = absurd (omega arith)
 bit-packed f (suc n) p zero h = rw (pow-zero, div-one, add-zero) (lowest (packed f (suc p) n) (f p))
 bit-packed f (suc n) p (suc j) h =
@@ -47,14 +48,14 @@ pub packed-starts : (f : ℕ → Bool) (p : ℕ) → Packed f p 0 0
 packed-starts f p = record { same = refl }
 
 -- The mark before place p goes in at the lowest bit.
-pub packed-steps : {f : ℕ → Bool} {p n byte r : ℕ} → 0 < p → r ≡ bit (f (p - 1)) → Packed f p n byte
+pub packed-steps : {f : ℕ → Bool} {p n byte r : ℕ} → 0 < p → r ≡ oneIf (f (p - 1)) → Packed f p n byte
     → Packed f (p - 1) (n + 1) (2 * byte + r)
 packed-steps {p = p} h e d =
     let back : suc (p - 1) ≡ p = omega arith in
     record { same = rw (e, d .same, add-one, back) }
 
 -- Up to seven marks leave room for one more.
-pub packed-room : {f : ℕ → Bool} {p n byte r : ℕ} → n < 8 → r ≡ bit (f (p - 1)) → Packed f p n byte → 2 * byte + r < 256
+pub packed-room : {f : ℕ → Bool} {p n byte r : ℕ} → n < 8 → r ≡ oneIf (f (p - 1)) → Packed f p n byte → 2 * byte + r < 256
 packed-room {f} {p} {n} h e d =
     let room : 2 ^ n ≤ 128 = pow-le-pow-right {n = 2} (omega arith) {i = n} {j = 7} (omega arith) in
     omega (arith, d .same, packed-below f n p, bit-small (f (p - 1)))

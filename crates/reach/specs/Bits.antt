@@ -3,14 +3,15 @@ use mathlib.Core.Bool.{Bool, false}
 use mathlib.Core.List.{List, _++_}
 use mathlib.Core.Logic.{_↔_}
 use mathlib.Core.Path.{_≡_}
-use Prim.Native.Nat.{ℕ, _+_, _-_, _*_, _/_, _%_, _^_, _≤_, _<_}
-use lib.Dec.{T, eqb}
+use Prim.Native.Nat.{ℕ, _+_, _-_, _*_, _/_, _%_, _≤_, _<_}
+use lib.Dec.{T}
 use lib.ListN.{length, getD, drop, replicate}
+use Rattle.model.specs.Bits.{bit}
 use Rattle.model.specs.Lines.{bits, lastOf, value, lineAt}
 
 -- Bit p of a store stands: in byte p div 8, lowest bit first.
 abbrev pub bitAt : List ℕ → ℕ → Bool
-bitAt store p = eqb (getD store (p / 8) 0 / 2 ^ (p % 8) % 2) 1
+bitAt store p = bit (p % 8) (getD store (p / 8) 0)
 
 -- How many bytes hold the bits of a model with these G and K.
 abbrev pub bytesFor : ℕ → ℕ → ℕ

@@ -1,10 +1,11 @@
 -- Which places of a line table the tables of both threads' least steps mark.
-use mathlib.Core.Bool.{Bool, _&&_, cond}
+use mathlib.Core.Bool.{Bool, _&&_}
 use mathlib.Core.List.{List}
 use mathlib.Core.Path.{_≡_}
-use Prim.Native.Nat.{ℕ, _+_, _*_, _/_, _%_, _^_, _<_}
-use lib.Dec.{eqb, leb, ltb}
+use Prim.Native.Nat.{ℕ, _+_, _*_, _<_}
+use lib.Dec.{leb, ltb}
 use lib.ListN.{getD}
+use Rattle.model.specs.Bits.{bit}
 use Rattle.model.specs.Lines.{bits}
 use Rattle.reach.specs.Bits.{fullAt}
 
@@ -12,10 +13,6 @@ use Rattle.reach.specs.Bits.{fullAt}
 unfoldable pub marked : ℕ → ℕ → List ℕ → List ℕ → ℕ → Bool
 marked g k a b p = ltb p (bits g k) && leb (getD a (fullAt g k p) 0) 4096 && leb (getD b (fullAt g k p) 0) 4096
 
--- A mark as a bit.
-abbrev pub bit : Bool → ℕ
-bit m = cond m 1 0
-
 -- The bits of a byte are the eight marks from place 8 i on, lowest bit first.
 abbrev pub Holds : (ℕ → Bool) → ℕ → ℕ → Type 0
-Holds f byte i = (j : ℕ) → j < 8 → eqb (byte / 2 ^ j % 2) 1 ≡ f (8 * i + j)
+Holds f byte i = (j : ℕ) → j < 8 → bit j byte ≡ f (8 * i + j)

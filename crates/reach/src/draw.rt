@@ -2,9 +2,10 @@
 ghost use mathlib.Core.Path.{_≡_};
 ghost use Prim.Native.Nat.{_*_, _^_, _<_, _≤_};
 ghost use lib.ListN.{length, getD};
+ghost use Rattle.model.specs.Bits.{oneIf};
 ghost use Rattle.model.specs.Lines.{bits, value, digits};
 ghost use Rattle.reach.specs.Bits.{bytesFor, padded, fullAt, Drawn};
-ghost use Rattle.reach.specs.Marks.{marked, bit, Holds};
+ghost use Rattle.reach.specs.Marks.{marked, Holds};
 
 // The bits of all lines, and 0 in the spare bits of the last byte. `a` and `b` hold the least steps of each full line for the two
 // threads; above 4096 stands for a line that the thread cannot follow.
@@ -45,7 +46,7 @@ fn byte_of(g: usize, k: usize, count: usize, at: usize, a: &[u64], b: &[u64]) ->
 fn bit_of(g: usize, k: usize, count: usize, p: usize, a: &[u64], b: &[u64]) -> u8
     requires { ⌜ (1 ≤ g) × (g ≤ 4) × (1 ≤ k) × (k ≤ 3) × (count ≡ bits g k) ⌝ }
     requires { ⌜ (4096 ≤ length (now a)) × (4096 ≤ length (now b)) ⌝ }
-    ensures { λ r. ⌜ r ≡ bit (marked g k (now (a .entry)) (now (b .entry)) p) ⌝ }
+    ensures { λ r. ⌜ r ≡ oneIf (marked g k (now (a .entry)) (now (b .entry)) p) ⌝ }
 {
     if count <= p {
         return 0;

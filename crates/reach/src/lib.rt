@@ -8,6 +8,7 @@ ghost use Rattle.reach.specs.Bits.{bytesFor};
 
 pub mod costs;
 pub mod draw;
+pub mod line;
 pub mod parts;
 
 use model::Model;

@@ -6,9 +6,10 @@ use Prim.Native.Nat.{ℕ, _≤_, _<_, zero-le}
 use native.Mathlib.Omega.{arith}
 use lib.Dec.{T, eqb}
 use Rattle.model.specs.declared.Model.{Model}
+use Rattle.model.specs.Bits.{bit}
 use Rattle.model.specs.Fits.{Fits}
 use Rattle.model.proofs.Tests.{passed}
-use Rattle.record.specs.Reader.{value, bit, byte, ranged, field, Head, head}
+use Rattle.record.specs.Reader.{value, byte, ranged, field, Head, head}
 use Rattle.record.specs.Writer.{fieldOf, weight, mapOf}
 use Rattle.record.proofs.OneField.{checked, parted, carried, byte-forth}
 use Rattle.record.proofs.OneField.{ranged-back, ranged-forth, field-back, FieldRead, field-forth}

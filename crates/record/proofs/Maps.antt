@@ -9,8 +9,9 @@ use native.Mathlib.Omega.{arith}
 use lib.Dec.{T, ltb, eqb}
 use Rattle.model.specs.declared.Right.{Right}
 use Rattle.model.specs.declared.Right.the-variants.{Remove, Swap, Push}
+use Rattle.model.specs.Bits.{bit}
 use Rattle.model.proofs.Tests.{both, order, equal}
-use Rattle.record.specs.Reader.{bit, ruleMap}
+use Rattle.record.specs.Reader.{ruleMap}
 use Rattle.record.specs.Writer.{symbolBits}
 
 -- A test that passes at both truth values.

@@ -10,13 +10,14 @@ use lib.Seq.{drop-append-seam, length-take-le, getD-take}
 use Rattle.model.specs.declared.Model.{Model}
 use Rattle.model.specs.declared.Rule.{Rule}
 use Rattle.model.specs.declared.Thread.{Thread}
+use Rattle.model.specs.Bits.{bit}
 use Rattle.model.specs.Rules.{zeroRule}
 use Rattle.model.specs.Valid.{Valid, SameThread, Same}
 use Rattle.model.proofs.Ranges.{valid-fits}
 use Rattle.record.specs.declared.Reading.{Reading}
 use Rattle.record.specs.Kept.{Unused, Kept, Keeps}
 use Rattle.record.specs.Held.{readingOf}
-use Rattle.record.specs.Reader.{Read, refused, value, bit, rules, Head, head, threadOf, modelOf, front, ended, readOf}
+use Rattle.record.specs.Reader.{Read, refused, value, rules, Head, head, threadOf, modelOf, front, ended, readOf}
 use Rattle.record.specs.Writer.{weight, rulesOf, mapOf, headBytes, recordOf}
 use Rattle.record.proofs.OneField.{apart, parted, carried, value-same}
 use Rattle.record.proofs.Maps.{HeadBits, head-sum}

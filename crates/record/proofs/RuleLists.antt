@@ -12,9 +12,10 @@ use borrow.Author.Tests.{lt-ltb}
 use Rattle.model.specs.declared.Right.{Right}
 use Rattle.model.specs.declared.Right.the-variants.{Remove, Swap, Push}
 use Rattle.model.specs.declared.Rule.{Rule}
+use Rattle.model.specs.Bits.{bit}
 use Rattle.model.specs.Fits.{RightFits, RuleFits}
 use Rattle.model.proofs.Tests.{order}
-use Rattle.record.specs.Reader.{value, bit, byte, field, ruleMap, symbol, right, rule, ruleList}
+use Rattle.record.specs.Reader.{value, byte, field, ruleMap, symbol, right, rule, ruleList}
 use Rattle.record.specs.Writer.{fieldOf, weight, symbolsOf, symbolBits, ruleOf, ruleListOf}
 use Rattle.record.proofs.OneField.{checked, parted, carried, byte-forth}
 use Rattle.record.proofs.OneField.{ranged-back, ranged-forth, field-back, FieldRead, field-forth}

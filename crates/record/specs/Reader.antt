@@ -1,7 +1,7 @@
 -- The model record as it is read: from left to right, and the first fault gives the refusal.
 use mathlib.Core.Bool.{Bool, true, false, not, _&&_, _||_}
 use mathlib.Core.List.{List, [], _∷_, _++_}
-use Prim.Native.Nat.{ℕ, zero, suc, _-_, _/_, _%_, _^_}
+use Prim.Native.Nat.{ℕ, zero, suc, _-_, _/_, _%_}
 use lib.Dec.{leb, ltb, eqb}
 use lib.ListN.{length, replicate}
 use Rattle.model.specs.declared.Model.{Model}
@@ -9,6 +9,7 @@ use Rattle.model.specs.declared.Right.{Right}
 use Rattle.model.specs.declared.Right.the-variants.{Remove, Swap, Push}
 use Rattle.model.specs.declared.Rule.{Rule}
 use Rattle.model.specs.declared.Thread.{Thread}
+use Rattle.model.specs.Bits.{bit}
 use Rattle.model.specs.Rules.{zeroRule}
 
 -- Reading at the front of a list of bytes: a refusal's number, or a value and the bytes left.
@@ -25,10 +26,6 @@ andThen (value a rest) next = next a rest
 abbrev pub need : {A : Type 0} → ℕ → Bool → Read A → Read A
 need n true r = r
 need n false r = refused n
-
--- Bit i of a map byte stands, the lowest being bit 0.
-abbrev pub bit : ℕ → ℕ → Bool
-bit i map = eqb (map / 2 ^ i % 2) 1
 
 -- A number is at least `low` and below `limit`.
 abbrev pub inRange : ℕ → ℕ → ℕ → Bool

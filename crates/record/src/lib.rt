@@ -9,7 +9,9 @@ ghost use Rattle.record.specs.Kept.{Keeps};
 ghost use Rattle.record.specs.Reader.{readOf};
 ghost use Rattle.record.specs.Written.{writtenOf, storeOf};
 
+mod field;
 pub mod reader;
+mod rules;
 mod writer;
 
 // What a whole record says, or the refusal's number.

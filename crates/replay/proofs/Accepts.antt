@@ -1,36 +1,24 @@
 -- Replay accepts exactly the legal schedules: bytes of even length are the bytes of their steps, and a walk that is not
 -- refused is a run.
 use mathlib.Core.Bool.{Bool, true, false, cond}
-use mathlib.Core.List.{List, [], _∷_}
+use mathlib.Core.List.{List}
 use mathlib.Core.Logic.{_↔_}
 use mathlib.Core.Path.{_≡_, refl, sym, ap}
-use Prim.Native.Nat.{ℕ, zero, suc, _%_, _≤_}
+use Prim.Native.Nat.{ℕ, zero, suc, _≤_}
 use native.Mathlib.Omega.{arith}
 use lib.Dec.{T, eqb}
 use lib.ListN.{length}
 use Rattle.model.specs.declared.Model.{Model}
 use Rattle.model.specs.declared.Shared.{Shared}
 use Rattle.model.specs.Runs.{Leads}
+use Rattle.model.specs.Schedules.{bytesOf, stepsOf}
 use Rattle.model.specs.Valid.{Valid, faultOf}
-use Rattle.model.specs.Walk.{Step, bytesOf, Config, Walked, refused, arrived, startOf, walk}
-use Rattle.model.proofs.Stores.{length-bytes}
+use Rattle.model.specs.Walk.{Step, Config, Walked, refused, arrived, startOf, walk}
+use Rattle.model.proofs.Stores.{length-bytes, steps-bytes, bytes-steps}
 use Rattle.model.proofs.Tests.{tests, passed}
 use Rattle.replay.specs.declared.Replayed.{Replayed}
 use Rattle.replay.specs.declared.Replayed.the-variants.{Accepted, Refused}
-use Rattle.replay.specs.Replay.{stepsOf, sizeFits, answer, unlessFault, replayOf}
-
--- The steps of a schedule's bytes are the schedule.
-pub steps-bytes : (ss : List Step) → stepsOf (bytesOf ss) ≡ ss
-unfolding stepsOf
-steps-bytes [] = refl
-steps-bytes (s ∷ ss) = ap (λ l. s ∷ l) (steps-bytes ss)
-
--- Bytes of even length are the bytes of their steps.
-pub bytes-steps : (bs : List ℕ) → length bs % 2 ≡ 0 → bytesOf (stepsOf bs) ≡ bs
-unfolding stepsOf
-bytes-steps [] e = refl
-bytes-steps (t ∷ []) e = absurd (omega arith)
-bytes-steps (t ∷ r ∷ rest) e = ap (λ l. t ∷ r ∷ l) (bytes-steps rest (omega arith))
+use Rattle.replay.specs.Replay.{sizeFits, answer, unlessFault, replayOf}
 
 -- Bytes are a legal schedule of at most 4,095 steps of a valid model, whose last shared state is g; `reached` says whether
 -- that is the target.

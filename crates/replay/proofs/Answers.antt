@@ -5,12 +5,13 @@ use Prim.Native.Nat.{ℕ, zero, suc, _%_, _<_, _≤_}
 use borrow.Author.Tests.{le-leb, lt-leb, eq-eqb, ne-eqb}
 use lib.ListN.{length}
 use Rattle.model.specs.declared.Model.{Model}
+use Rattle.model.specs.Schedules.{stepsOf}
 use Rattle.model.specs.Valid.{faultOf}
 use Rattle.model.specs.Walk.{Walked, startOf, walk}
 use Rattle.model.proofs.Ranges.{valid-fits}
 use Rattle.replay.specs.declared.Replayed.{Replayed}
 use Rattle.replay.specs.declared.Replayed.the-variants.{Refused}
-use Rattle.replay.specs.Replay.{stepsOf, sizeFits, answer, unlessFault, replayOf}
+use Rattle.replay.specs.Replay.{sizeFits, answer, unlessFault, replayOf}
 use Rattle.replay.specs.Stack.{Counted}
 
 -- A valid model's rules are within their arrays.

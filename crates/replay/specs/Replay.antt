@@ -1,20 +1,15 @@
 -- Replay: what the walk of a schedule given as bytes comes to, with the number of each refusal.
 use mathlib.Core.Bool.{Bool, _&&_, cond}
-use mathlib.Core.List.{List, [], _∷_}
+use mathlib.Core.List.{List}
 use Prim.Native.Nat.{ℕ, zero, suc, _%_}
 use lib.Dec.{leb, eqb}
 use lib.ListN.{length}
 use Rattle.model.specs.declared.Model.{Model}
+use Rattle.model.specs.Schedules.{stepsOf}
 use Rattle.model.specs.Valid.{faultOf}
-use Rattle.model.specs.Walk.{Step, Walked, refused, arrived, startOf, walk}
+use Rattle.model.specs.Walk.{Walked, refused, arrived, startOf, walk}
 use Rattle.replay.specs.declared.Replayed.{Replayed}
 use Rattle.replay.specs.declared.Replayed.the-variants.{Accepted, Refused}
-
--- The steps that bytes hold, two for each: the turn number, then the rule's number.
-unfoldable pub stepsOf : List ℕ → List Step
-stepsOf [] = []
-stepsOf (turn ∷ []) = []
-stepsOf (turn ∷ rule ∷ rest) = record { turn = turn; rule = rule } ∷ stepsOf rest
 
 -- The bytes are whole steps, and no more than 4,095 of them.
 unfoldable pub sizeFits : List ℕ → Bool

@@ -1,6 +1,6 @@
 -- Bits counted one by one; and the lines of the lengths, put one after another: where those of n lengths stand, the bits of
 -- the next length begin at `powers g n`.
-use mathlib.Core.Bool.{Bool, cond}
+use mathlib.Core.Bool.{Bool}
 use mathlib.Core.List.{List, _++_}
 use mathlib.Core.Path.{_≡_, refl, _∙_}
 use Prim.Native.Nat.{ℕ, zero, suc, _+_, _*_, _/_, _%_, _^_, _≤_, _<_}
@@ -10,6 +10,7 @@ use native.Mathlib.Omega.{arith}
 use lib.Dec.{eqb}
 use lib.ListN.{length}
 use lib.Seq.{length-sets}
+use Rattle.model.specs.Bits.{oneIf}
 use Rattle.model.specs.Lines.{powers}
 use Rattle.reach.specs.Bits.{bitAt}
 use Rattle.record.specs.Put.{Put}
@@ -23,16 +24,16 @@ pub halved : (byte j : ℕ) {rest : ℕ} → rest ≡ byte / 2 ^ j → rest / 2 
 halved byte j e = rw (add-one, pow-succ', mul-comm 2 (2 ^ j), ← div-div-eq-div-mul, e)
 
 -- The lowest bit is 1 or 0.
-pub lowest : (x : ℕ) → x % 2 ≡ cond (eqb (x % 2) 1) 1 0
+pub lowest : (x : ℕ) → x % 2 ≡ oneIf (eqb (x % 2) 1)
 lowest x = go (x % 2) (omega arith)
   where
-    go : (y : ℕ) → y < 2 → y ≡ cond (eqb y 1) 1 0
+    go : (y : ℕ) → y < 2 → y ≡ oneIf (eqb y 1)
     go zero h = refl
     go (suc zero) h = refl
     go (suc (suc y)) h = absurd (omega arith)
 
 -- One number more is looked at.
-pub counted : (has : ℕ → Bool) (v : ℕ) {r x : ℕ} → r ≡ countOf has v → x ≡ cond (has v) 1 0 → r + x ≡ countOf has (v + 1)
+pub counted : (has : ℕ → Bool) (v : ℕ) {r x : ℕ} → r ≡ countOf has v → x ≡ oneIf (has v) → r + x ≡ countOf has (v + 1)
 unfolding countOf
 counted has v e f = rw (add-one, e, f)
 

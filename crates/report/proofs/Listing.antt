@@ -7,8 +7,8 @@ use lib.ListN.{length, drop, length-append, length-drop}
 use lib.Seq.{length-sets}
 use Rattle.record.specs.Put.{Put}
 use Rattle.record.proofs.Puts.{nothing, _then_}
-use Rattle.replay.specs.Replay.{stepsOf}
-use Rattle.replay.proofs.Schedules.{stepAt, stepsFrom, first-step, short}
+use Rattle.model.specs.Schedules.{stepsOf, stepAt, stepsFrom}
+use Rattle.model.proofs.Stores.{first-step, short}
 use Rattle.replay.proofs.Steps.{even-turn, odd-turn}
 use Rattle.report.specs.Text.{decimal, line, stepLine, stepLines}
 

@@ -2,30 +2,28 @@
 use mathlib.Core.List.{List, _++_}
 use mathlib.Core.Logic.{_↔_}
 use mathlib.Core.Path.{_≡_, refl, subst}
-use Prim.Native.Nat.{ℕ, pred, _+_, _-_, _*_, _≤_, _<_}
+use Prim.Native.Nat.{ℕ, pred, _+_, _*_, _≤_, _<_}
 use native.Mathlib.Omega.{arith}
 use borrow.Author.Tests.{le-leb}
 use lib.Dec.{T}
 use lib.ListN.{length, take}
-use lib.Seq.{sets-eq, take-at}
 use Rattle.model.specs.declared.Model.{Model}
 use Rattle.model.specs.Lines.{Line, powers, bits, digits, position}
-use Rattle.model.specs.Runs.{Marked}
+use Rattle.model.specs.Runs.{Reaches, Marked}
+use Rattle.model.specs.Schedules.{stepsOf, Stored}
 use Rattle.model.specs.Valid.{Valid, firstOf}
 use Rattle.model.specs.Verdict.{clear, long, found, Judged}
-use Rattle.model.specs.Walk.{Step, bytesOf}
+use Rattle.model.specs.Walk.{Step}
 use Rattle.model.proofs.Positions.{length-digits, value-digits, digits-states, position-below, line-at-position}
 use Rattle.model.proofs.Ranges.{valid-fits}
-use Rattle.model.proofs.Stores.{length-bytes}
+use Rattle.model.proofs.Stores.{stored-steps}
 use Rattle.reach.specs.Answer.{LineTable}
 use Rattle.reach.specs.Bits.{bitAt, bytesFor}
 use Rattle.record.specs.declared.Answer.the-variants.{Accepted, Refused}
 use Rattle.record.specs.declared.Reading.{Reading}
 use Rattle.record.specs.Held.{readingOf}
 use Rattle.record.specs.Reader.{Read, refused, value}
-use Rattle.replay.specs.Replay.{stepsOf}
-use Rattle.replay.proofs.Accepts.{steps-bytes}
-use Rattle.judge.specs.Answer.{refusalOf, Scheduled}
+use Rattle.judge.specs.Answer.{refusalOf}
 use Rattle.report.specs.Prints.{Marks, Judges, Answers}
 use Rattle.report.specs.Table.{standing, Fills}
 use Rattle.report.specs.Text.{line, refusedWord, foundWord, clearLine, longLine, stepLines, countLines}
@@ -82,31 +80,23 @@ tells-clear {m} j t =
       tells = record { has = standing (m .g) _; marks = table-marks m t; same = refl };
     }
 
--- The steps that stand at the front of the schedule store.
-pub front-steps : {m : Model} {n : ℕ} {old new : List ℕ} (s : Scheduled m n old new) → 2 * n ≤ length old
-    → stepsOf (take (2 * n - 0) new) ≡ s .steps
-front-steps {n = n} {old = old} s h =
-    let size : length (bytesOf (s .steps)) ≡ 2 * n - 0 = omega (arith, length-bytes (s .steps), s .count) in
-    rw (s .stored, sets-eq (bytesOf (s .steps)) old 0 (omega arith), take-at (bytesOf (s .steps)) _ (2 * n - 0) size)
-    (steps-bytes (s .steps))
-
 -- There is room for the text of the schedule.
-pub found-room : {m : Model} {n : ℕ} {old new : List ℕ} → Valid m → n ≤ 4095 → (s : Scheduled m n old new) → 2 * n ≤ length old
-    → length (line foundWord n ++ stepLines (stepsOf (take (2 * n - 0) new))) ≤ 28676
-found-room {m} v h s l = rw (front-steps s l) (found-short (valid-fits m .0 v) (s .reaches) (s .count) h)
+pub found-room : {m : Model} {n : ℕ} {old new : List ℕ} → Valid m → n ≤ 4095 → (s : Stored (Reaches m) n 0 old new) → 2 * n ≤ length old
+    → length (line foundWord n ++ stepLines (stepsOf (take (2 * n) new))) ≤ 28676
+found-room {m} v h s l = rw (stored-steps s l) (found-short (valid-fits m .0 v) (s .run) (s .count) h)
 
 -- The line of a refusal is short.
 pub refused-short : (n : ℕ) → n < 256 → length (line refusedWord n) ≤ 13
 refused-short n h = omega (arith, length-line refusedWord n, digits-4 n (omega arith))
 
 -- The text of a model that is Found.
-pub tells-found : {m : Model} {n : ℕ} {ss : List Step} {old new : List ℕ} → Judged m (found n) → (s : Scheduled m n old new)
+pub tells-found : {m : Model} {n : ℕ} {ss : List Step} {old new : List ℕ} → Judged m (found n) → (s : Stored (Reaches m) n 0 old new)
     → ss ≡ s .steps → Judges m (line foundWord n ++ stepLines ss)
 tells-found {n = n} j s e =
     record {
       verdict = found n;
       judged = j;
-      tells = record { steps = s .steps; reaches = s .reaches; count = s .count; same = rw e };
+      tells = record { steps = s .steps; run = s .run; count = s .count; shown = rw e };
     }
 
 -- The text of a model that is Long.

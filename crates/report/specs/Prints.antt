@@ -9,9 +9,9 @@ use lib.ListN.{length, drop}
 use Rattle.model.specs.declared.Model.{Model}
 use Rattle.model.specs.Lines.{digits}
 use Rattle.model.specs.Runs.{Reaches, Marked}
+use Rattle.model.specs.Schedules.{Shown}
 use Rattle.model.specs.Verdict.{Verdict, clear, long, found, Judged}
 use Rattle.model.specs.Valid.{Valid}
-use Rattle.model.specs.Walk.{Step}
 use Rattle.record.specs.Reader.{Read, refused, value, readOf}
 use Rattle.report.specs.Text.{line, refusedWord, foundWord, clearLine, longLine, stepLines, countLines}
 
@@ -27,11 +27,8 @@ pub record Counts (m : Model) (text : List ℕ) : Type 0 where
   pub same : text ≡ clearLine ++ countLines (m .g) has (2 * m .k)
 
 -- The text of Found: `found`, the number of steps, and the lines of some schedule of so many steps that reaches the target.
-pub record Lists (m : Model) (n : ℕ) (text : List ℕ) : Type 0 where
-  pub steps : List Step
-  pub reaches : Reaches m steps
-  pub count : length steps ≡ n
-  pub same : text ≡ line foundWord n ++ stepLines steps
+abbrev pub Lists : Model → ℕ → List ℕ → Type 0
+Lists m n text = Shown (Reaches m) n (λ ss. text ≡ line foundWord n ++ stepLines ss)
 
 -- The text of a verdict on a model.
 abbrev pub Tells : Model → Verdict → List ℕ → Type 0
@@ -70,3 +67,8 @@ pub record Room (text : List ℕ) : Type 0 where
 pub record Asks (m : Model) (text : List ℕ) : Type 0 where
   pub valid : Valid m
   pub room : Room text
+
+-- What the call answers and leaves in the store: the text where there is room for the longest; else 0, and what it held.
+pub data Reports (bytes : List ℕ) (r : ℕ) (old new : List ℕ) : Type 0 where
+  text : 28676 ≤ length old → Holds (Prints bytes) r old new → Reports bytes r old new
+  short : length old < 28676 → r ≡ 0 → new ≡ old → Reports bytes r old new

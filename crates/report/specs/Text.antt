@@ -3,6 +3,7 @@ use mathlib.Core.Bool.{Bool, cond}
 use mathlib.Core.List.{List, [], _∷_, _++_}
 use Prim.Native.Nat.{ℕ, zero, suc, _+_, _/_, _%_, _^_}
 use lib.Dec.{ltb}
+use Rattle.model.specs.Bits.{oneIf}
 use Rattle.model.specs.Walk.{ThreadId, A, B, ownerOf, Step}
 
 -- A number in base ten without leading zeros, where it has no more digits than `places`.
@@ -51,7 +52,7 @@ stepLines (s ∷ ss) = stepLine s ++ stepLines ss
 -- How many of the numbers below n are in a set.
 unfoldable pub countOf : (ℕ → Bool) → ℕ → ℕ
 countOf has zero = 0
-countOf has (suc n) = countOf has n + cond (has n) 1 0
+countOf has (suc n) = countOf has n + oneIf (has n)
 
 -- The line of a length: the length, a space, and a number of lines.
 unfoldable pub countLine : ℕ → ℕ → List ℕ

@@ -1,5 +1,7 @@
 // What is printed for a record: the verdict on its model, or the refusal. The text is defined in specs/.
-ghost use Rattle.report.specs.Prints.{Judges, Prints, Holds, Room, Asks};
+ghost use Prim.Native.Nat.{_≤_};
+ghost use lib.ListN.{length};
+ghost use Rattle.report.specs.Prints.{Judges, Prints, Holds, Room, Asks, Reports};
 use judge::Judgement;
 use model::Model;
 use record::Answer;
@@ -7,8 +9,20 @@ use record::Answer;
 mod lines;
 mod text;
 
-// Puts the text for the bytes of a record at the front of a store, and answers how many bytes it has.
+// Puts the text for the bytes of a record at the front of a store, and answers how many bytes it has; 0, with the store as it was,
+// where the store is shorter than the longest text.
 pub fn report(bytes: &[u8], store: &mut [u8]) -> usize
+    ensures text { λ r. ⌜ Reports (now (bytes .entry)) r (now (store .entry)) (now (store .exit)) ⌝ }
+    ensures within { λ r. ⌜ r ≤ length (now (store .exit)) ⌝ }
+{
+    if store.len() < 28676 {
+        return 0;
+    }
+    put_report(bytes, store)
+}
+
+// The same into a store that has room.
+fn put_report(bytes: &[u8], store: &mut [u8]) -> usize
     requires { ⌜ Room (now store) ⌝ }
     ensures { λ r. ⌜ Holds (Prints (now (bytes .entry))) r (now (store .entry)) (now (store .exit)) ⌝ }
 {
@@ -32,7 +46,7 @@ fn judged(m: Model, store: &mut [u8]) -> usize
         Judgement::Long => text::put(store, 0, b"long\n"),
         Judgement::Found(n) => {
             let end = 2 * n as usize;
-            lines::put_found(store, n, &schedule[0..end])
+            lines::put_found(store, n, &schedule[..end])
         }
         // No valid model is refused where the stores have room.
         Judgement::Refused(n) => n as usize,

@@ -1,13 +1,12 @@
 // The lines below a verdict: the steps of a schedule, and how many lines of each length are marked.
-ghost use mathlib.Core.Bool.{cond};
 ghost use mathlib.Core.List.{_++_};
 ghost use mathlib.Core.Path.{_≡_};
-ghost use Prim.Native.Nat.{_+_, _*_, _/_, _%_, _^_, _≤_, _<_};
-ghost use lib.Dec.{eqb};
+ghost use Prim.Native.Nat.{_+_, _*_, _≤_, _<_};
 ghost use lib.ListN.{length};
+ghost use Rattle.model.specs.Bits.{bit as bitOf, oneIf};
+ghost use Rattle.model.specs.Schedules.{stepsOf};
 ghost use Rattle.reach.specs.Bits.{bitAt};
 ghost use Rattle.record.specs.Put.{Put};
-ghost use Rattle.replay.specs.Replay.{stepsOf};
 ghost use Rattle.report.specs.Table.{Fills, standing};
 ghost use Rattle.report.specs.Text.{line, foundWord, clearLine, stepLine, stepLines, countOf, countLine, countLines};
 use crate::text;
@@ -111,7 +110,7 @@ fn count(table: &[u8], from: usize, n: usize) -> usize
 // Bit i of a byte, the lowest being bit 0.
 fn bit(byte: u8, i: usize) -> usize
     requires { ⌜ i < 8 ⌝ }
-    ensures { λ r. ⌜ (r ≡ cond (eqb (byte / 2 ^ i % 2) 1) 1 0) × (r ≤ 1) ⌝ }
+    ensures { λ r. ⌜ (r ≡ oneIf (bitOf i byte)) × (r ≤ 1) ⌝ }
 {
     let mut rest = byte as usize;
     let mut j = 0;

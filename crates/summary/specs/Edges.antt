@@ -5,6 +5,7 @@ use mathlib.Core.Path.{_≡_}
 use Prim.Native.Nat.{ℕ, _+_, _≤_, _<_, min}
 use lib.Dec.{leb, ltb}
 use lib.ListN.{length, getD}
+use Rattle.model.specs.Bits.{oneIf}
 
 -- An edge: cell k is at most w more than cells a and b together.
 pub record Edge : Type 0 where
@@ -55,7 +56,7 @@ pub record Closes (W : Edge → Type 0) (old new : List ℕ) : Type 0 where
 
 -- 1 where a count has fallen.
 abbrev pub less : ℕ → ℕ → ℕ
-less new old = cond (ltb new old) 1 0
+less new old = oneIf (ltb new old)
 
 -- A row of edges: cells k, k + 1, .. below k + n, each by cell a and one of a row from b on.
 pub record Row (w k a b n : ℕ) (e : Edge) : Type 0 where

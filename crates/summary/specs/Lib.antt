@@ -1,5 +1,6 @@
 pub mod Cells
 pub mod Control
 pub mod Edges
+pub mod Kinds
 pub mod Stretch
 pub mod Table

@@ -30,16 +30,6 @@ pub fn lane_place(base: usize, g: usize, s: usize, d: usize) -> usize
     base + place(g, s, d) * 16
 }
 
-// What a cell holds before a search: to stay in place takes no step.
-fn blank_at(k: usize) -> u64
-    ensures { λ r. ⌜ r ≡ blank k ⌝ }
-{
-    if FIRST <= k {
-        return 4097;
-    }
-    if k % 8 == 4 + k / 136 { 0 } else { 4097 }
-}
-
 // Makes the cells of a part blank.
 pub fn reset(t: &mut [u64], from: usize, to: usize)
     requires { ⌜ (from ≤ to) × (to ≤ length (now t)) ⌝ }
@@ -50,4 +40,14 @@ pub fn reset(t: &mut [u64], from: usize, to: usize)
         t[i] = blank_at(i);
         i += 1;
     }
+}
+
+// What a cell holds before a search: to stay in place takes no step.
+fn blank_at(k: usize) -> u64
+    ensures { λ r. ⌜ r ≡ blank k ⌝ }
+{
+    if FIRST <= k {
+        return 4097;
+    }
+    if k % 8 == 4 + k / 136 { 0 } else { 4097 }
 }

@@ -1,20 +1,19 @@
-// Pushes with one turn end inside what comes of the first symbol, and one inside what comes of the second.
+// The edges of pushes with one turn end inside what comes of the first symbol, and one inside what comes of the second.
 use crate::cells::FIRST;
 use crate::cells::SECOND;
 use crate::cells::lane_place;
 use crate::edges::row;
 use model::Right;
 use model::Rule;
-use model::Thread;
 ghost use mathlib.Core.Path.{_≡_};
 ghost use Prim.Native.Nat.{_+_, _*_, _≤_, _<_};
 ghost use lib.ListN.{length};
-ghost use Rattle.model.specs.Fits.{RuleFits, ThreadFits};
-ghost use Rattle.summary.specs.Cells.{lane, size, first, second, CrossRule, Rules};
+ghost use Rattle.model.specs.Fits.{RuleFits};
+ghost use Rattle.summary.specs.Cells.{lane, size, first, second, CrossRule};
 ghost use Rattle.summary.specs.Edges.{Relaxed, Row, Below};
 
 // The edges of a rule whose first turn end is the one of lane l. How many cells have fallen.
-fn cross_rule(t: &mut [u64], l: usize, n: usize, r: Rule) -> u64
+pub fn cross_rule(t: &mut [u64], l: usize, n: usize, r: Rule) -> u64
     requires { ⌜ (length (now t) ≡ size) × (l < 16) × (n ≤ 4) × RuleFits n r ⌝ }
     ensures { λ x. ⌜ Relaxed (CrossRule l n r) (now (t .entry)) (now (t .exit)) x × (x ≤ 512) ⌝ }
 {
@@ -61,22 +60,6 @@ fn cross_pushes(
             128,
         );
         q += 1;
-    }
-    changes
-}
-
-// The edges of all rules, once.
-pub fn cross_pass(t: &mut [u64], l: usize, n: usize, th: Thread) -> u64
-    requires { ⌜ (length (now t) ≡ size) × (l < 16) × (n ≤ 4) × ThreadFits n th ⌝ }
-    ensures { λ x. ⌜ Relaxed (Rules th (CrossRule l n)) (now (t .entry)) (now (t .exit)) x ⌝ }
-{
-    let count = th.count;
-    let mut changes = 0;
-    let mut i = 0;
-    while i < count {
-        let rule = th.rules[i];
-        changes += cross_rule(t, l, n, rule);
-        i += 1;
     }
     changes
 }

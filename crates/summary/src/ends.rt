@@ -8,7 +8,7 @@ use crate::edges::row;
 ghost use mathlib.Core.Path.{_≡_};
 ghost use Prim.Native.Nat.{_+_, _*_, _≤_, _<_};
 ghost use lib.ListN.{length};
-ghost use Rattle.summary.specs.Cells.{plain, lane, laneOf, size, first, second, rest, FirstEnds, SecondEnds};
+ghost use Rattle.summary.specs.Cells.{plain, lane, laneOf, size, first, rest, FirstEnds, SecondEnds};
 ghost use Rattle.summary.specs.Edges.{Relaxed, Row, Below};
 
 // The steps of a turn end.
@@ -28,7 +28,28 @@ pub fn first_ends(t: &mut [u64], n: usize) -> u64
     changes
 }
 
-// The same from one state o.
+// The turn end (o, i) before another one: the lanes are the second one's.
+pub fn second_ends(t: &mut [u64], o: usize, i: usize) -> u64
+    requires { ⌜ (length (now t) ≡ size) × (o < 4) × (i < 4) ⌝ }
+    ensures { λ x. ⌜ Relaxed (SecondEnds o i) (now (t .entry)) (now (t .exit)) x ⌝ }
+{
+    let mut changes = 0;
+    let mut s = 0;
+    while s < 17 {
+        changes += row(
+            t,
+            STEPS,
+            lane_place(SECOND, o, s, 0),
+            REST,
+            lane_place(FIRST, i, s, 0),
+            128,
+        );
+        s += 1;
+    }
+    changes
+}
+
+// One turn end, from one state o.
 fn ends_from(t: &mut [u64], n: usize, o: usize) -> u64
     requires { ⌜ (length (now t) ≡ size) × (n ≤ 4) × (o < 4) ⌝ }
     ensures { λ x. ⌜
@@ -84,27 +105,6 @@ fn ends_symbol(t: &mut [u64], o: usize, i: usize, s: usize) -> u64
             1,
         );
         d += 1;
-    }
-    changes
-}
-
-// The turn end (o, i) before another one: the lanes are the second one's.
-pub fn second_ends(t: &mut [u64], o: usize, i: usize) -> u64
-    requires { ⌜ (length (now t) ≡ size) × (o < 4) × (i < 4) ⌝ }
-    ensures { λ x. ⌜ Relaxed (SecondEnds o i) (now (t .entry)) (now (t .exit)) x ⌝ }
-{
-    let mut changes = 0;
-    let mut s = 0;
-    while s < 17 {
-        changes += row(
-            t,
-            STEPS,
-            lane_place(SECOND, o, s, 0),
-            REST,
-            lane_place(FIRST, i, s, 0),
-            128,
-        );
-        s += 1;
     }
     changes
 }

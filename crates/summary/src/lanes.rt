@@ -1,21 +1,20 @@
-// The search with one turn end inside, and with two: one code path for both parts of the table.
+// The edges of rules with one turn end inside, and with two: one code path for both parts of the table.
 use crate::cells::REST;
 use crate::cells::lane_place;
 use crate::cells::place;
 use crate::edges::row;
 use model::Right;
 use model::Rule;
-use model::Thread;
 ghost use mathlib.Core.Logic.{_⊎_};
 ghost use mathlib.Core.Path.{_≡_};
 ghost use Prim.Native.Nat.{_*_, _≤_, _<_};
 ghost use lib.ListN.{length};
-ghost use Rattle.model.specs.Fits.{RuleFits, ThreadFits};
-ghost use Rattle.summary.specs.Cells.{plain, lane, size, second, LaneRule, Rules};
-ghost use Rattle.summary.specs.Edges.{Relaxed, Closes, Row, Below};
+ghost use Rattle.model.specs.Fits.{RuleFits};
+ghost use Rattle.summary.specs.Cells.{plain, lane, size, second, LaneRule};
+ghost use Rattle.summary.specs.Edges.{Relaxed, Row, Below};
 
 // The edges of a rule in the part that starts at `base`. How many cells have fallen.
-fn lane_rule(t: &mut [u64], base: usize, n: usize, r: Rule) -> u64
+pub fn lane_rule(t: &mut [u64], base: usize, n: usize, r: Rule) -> u64
     requires { ⌜ (length (now t) ≡ size) × (base ≤ second) × (n ≤ 4) × RuleFits n r ⌝ }
     ensures { λ x. ⌜ Relaxed (LaneRule base n r) (now (t .entry)) (now (t .exit)) x × (x ≤ 1088) ⌝ }
 {
@@ -105,33 +104,4 @@ fn lane_pops(t: &mut [u64], base: usize, g: usize, s: usize, q: usize, b: usize,
         i += 1;
     }
     changes
-}
-
-// The edges of all rules, once.
-fn lane_pass(t: &mut [u64], base: usize, n: usize, th: Thread) -> u64
-    requires { ⌜ (length (now t) ≡ size) × (base ≤ second) × (n ≤ 4) × ThreadFits n th ⌝ }
-    ensures { λ x. ⌜
-        Relaxed (Rules th (LaneRule base n)) (now (t .entry)) (now (t .exit)) x × (x ≤ 1088 * 64)
-        ⌝ }
-{
-    let count = th.count;
-    let mut changes = 0;
-    let mut i = 0;
-    while i < count {
-        let rule = th.rules[i];
-        changes += lane_rule(t, base, n, rule);
-        i += 1;
-    }
-    changes
-}
-
-// Passes until one changes nothing.
-pub fn settle_lanes(t: &mut [u64], base: usize, n: usize, th: Thread)
-    requires { ⌜ (length (now t) ≡ size) × (base ≤ second) × (n ≤ 4) × ThreadFits n th ⌝ }
-    ensures { λ r. ⌜ Closes (Rules th (LaneRule base n)) (now (t .entry)) (now (t .exit)) ⌝ }
-{
-    let mut changes = 1;
-    while changes != 0 {
-        changes = lane_pass(t, base, n, th);
-    }
 }

@@ -1,22 +1,18 @@
-// The search within one turn.
-use crate::cells::FIRST;
+// The edges of rules within one turn.
 use crate::cells::REST;
 use crate::cells::place;
-use crate::cells::reset;
 use crate::edges::row;
 use model::Right;
 use model::Rule;
-use model::Thread;
 ghost use mathlib.Core.Path.{_≡_};
-ghost use Prim.Native.Nat.{ℕ, _+_, _*_, _≤_, _<_};
+ghost use Prim.Native.Nat.{_*_, _≤_, _<_};
 ghost use lib.ListN.{length};
-ghost use Rattle.model.specs.Fits.{RuleFits, ThreadFits};
-ghost use Rattle.summary.specs.Cells.{plain, size, first, PlainRule, Plain, Solved};
-ghost use Rattle.summary.specs.Control.{TurnEnd, Summed};
-ghost use Rattle.summary.specs.Edges.{Relaxed, Closes, Row, Below};
+ghost use Rattle.model.specs.Fits.{RuleFits};
+ghost use Rattle.summary.specs.Cells.{plain, size, PlainRule};
+ghost use Rattle.summary.specs.Edges.{Relaxed, Row, Below};
 
 // The edges of a rule. How many cells have fallen.
-fn plain_rule(t: &mut [u64], n: usize, r: Rule) -> u64
+pub fn plain_rule(t: &mut [u64], n: usize, r: Rule) -> u64
     requires { ⌜ (length (now t) ≡ size) × (n ≤ 4) × RuleFits n r ⌝ }
     ensures { λ x. ⌜ Relaxed (PlainRule n r) (now (t .entry)) (now (t .exit)) x × (x ≤ 36) ⌝ }
 {
@@ -49,41 +45,4 @@ fn plain_pushes(t: &mut [u64], n: usize, g: usize, s: usize, h: usize, a: usize,
         q += 1;
     }
     changes
-}
-
-// The edges of all rules, once.
-fn plain_pass(t: &mut [u64], n: usize, th: Thread) -> u64
-    requires { ⌜ (length (now t) ≡ size) × (n ≤ 4) × ThreadFits n th ⌝ }
-    ensures { λ x. ⌜ Relaxed (Plain th n) (now (t .entry)) (now (t .exit)) x × (x ≤ 36 * 64) ⌝ }
-{
-    let count = th.count;
-    let mut changes = 0;
-    let mut i = 0;
-    while i < count {
-        let rule = th.rules[i];
-        changes += plain_rule(t, n, rule);
-        i += 1;
-    }
-    changes
-}
-
-// Passes until one changes nothing.
-fn settle_plain(t: &mut [u64], n: usize, th: Thread)
-    requires { ⌜ (length (now t) ≡ size) × (n ≤ 4) × ThreadFits n th ⌝ }
-    ensures { λ r. ⌜ Closes (Plain th n) (now (t .entry)) (now (t .exit)) ⌝ }
-{
-    let mut changes = 1;
-    while changes != 0 {
-        changes = plain_pass(t, n, th);
-    }
-}
-
-// Solves the stretches within one turn, whatever the table held: each entry is then exact.
-pub fn close_plain(t: &mut [u64], n: usize, th: Thread)
-    requires { ⌜ (length (now t) ≡ size) × (n ≤ 4) × ThreadFits n th ⌝ }
-    ensures solved { λ r. ⌜ Solved (Plain th n) first (now (t .exit)) ⌝ }
-    ensures exact { λ r. ⌜ ((ends : ℕ → TurnEnd) → Summed th n 0 ends (now (t .exit))) ⌝ }
-{
-    reset(t, 0, FIRST);
-    settle_plain(t, n, th);
 }

@@ -1,12 +1,13 @@
-// Solves the parts of the table with turn ends inside, one after the other.
+// Solves the parts of the table, one after the other: no turn end inside, one, two.
+use crate::Kind;
 use crate::cells::FIRST;
 use crate::cells::SECOND;
 use crate::cells::SIZE;
 use crate::cells::reset;
-use crate::cross::cross_pass;
 use crate::ends::first_ends;
 use crate::ends::second_ends;
-use crate::lanes::settle_lanes;
+use crate::search::pass;
+use crate::search::settle;
 use model::Thread;
 ghost use mathlib.Core.Path.{_≡_};
 ghost use Prim.Native.Nat.{ℕ, _≤_, _<_};
@@ -14,6 +15,16 @@ ghost use lib.ListN.{length};
 ghost use Rattle.model.specs.Fits.{ThreadFits};
 ghost use Rattle.summary.specs.Cells.{size, first, second, Plain, First, Solved};
 ghost use Rattle.summary.specs.Control.{TurnEnd, Inside, Summed};
+
+// Solves the stretches within one turn, whatever the table held: each entry is then exact.
+pub fn close_plain(t: &mut [u64], n: usize, th: Thread)
+    requires { ⌜ (length (now t) ≡ size) × (n ≤ 4) × ThreadFits n th ⌝ }
+    ensures solved { λ r. ⌜ Solved (Plain th n) first (now (t .exit)) ⌝ }
+    ensures exact { λ r. ⌜ ((ends : ℕ → TurnEnd) → Summed th n 0 ends (now (t .exit))) ⌝ }
+{
+    reset(t, 0, FIRST);
+    settle(t, Kind::Plain, n, th);
+}
 
 // One turn end inside, from a table whose first part is solved: each entry is then exact, along any line.
 pub fn close_first(t: &mut [u64], n: usize, th: Thread)
@@ -23,7 +34,7 @@ pub fn close_first(t: &mut [u64], n: usize, th: Thread)
 {
     reset(t, FIRST, SIZE);
     first_ends(t, n);
-    settle_lanes(t, FIRST, n, th);
+    settle(t, Kind::Lanes(FIRST), n, th);
 }
 
 // Two turn ends inside of which the first is (o, i), from a table whose first two parts are solved, and which stay so: each
@@ -39,6 +50,7 @@ pub fn close_second(t: &mut [u64], n: usize, o: usize, i: usize, th: Thread)
 {
     reset(t, SECOND, SIZE);
     second_ends(t, o, i);
-    cross_pass(t, o * 4 + i, n, th);
-    settle_lanes(t, SECOND, n, th);
+    let lane = o * 4 + i;
+    pass(t, Kind::Cross(lane), n, th);
+    settle(t, Kind::Lanes(SECOND), n, th);
 }

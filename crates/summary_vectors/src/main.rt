@@ -71,7 +71,7 @@ fn slices(t: &mut [u64], n: usize, th: Thread) -> u64
 fn whole(t: &mut [u64], n: usize, th: Thread) -> u64
     requires { ⌜ (length (now t) ≡ size) × (n ≤ 4) × ThreadFits n th ⌝ }
 {
-    summary::plain::close_plain(t, n, th);
+    summary::turns::close_plain(t, n, th);
     summary::turns::close_first(t, n, th);
     let sum = total(t, 0, 9248);
     std::num::wrapping_add_u64(sum, slices(t, n, th))
@@ -144,7 +144,7 @@ fn doubling(t: &mut [u64]) -> Tally
     match answer {
         Answer::Refused(_) => Tally::new(),
         Answer::Accepted => {
-            summary::plain::close_plain(t, m.g as usize, m.a);
+            summary::turns::close_plain(t, m.g as usize, m.a);
             compared(t)
         }
     }

@@ -10,6 +10,7 @@ use lib.ListN.{length, getD}
 use Rattle.model.specs.declared.Thread.{Thread}
 use Rattle.model.specs.Fits.{ThreadFits}
 use Rattle.model.specs.Lines.{States, digits}
+use Rattle.model.specs.Schedules.{Stored}
 use Rattle.model.specs.Walk.{ThreadId, Step}
 use Rattle.reach.specs.Cost.{control, through, pairCost, Least, RunAlong, LeastAlong}
 use Rattle.reach.specs.Ends.{turnOf, endsOf, firstState, lastState}
@@ -23,10 +24,10 @@ use Rattle.summary.proofs.Floors.{unfloored}
 use Rattle.summary.proofs.Overs.{pops, stays}
 use Rattle.summary.proofs.Relaxing.{better}
 use Rattle.witness.specs.declared.goal.Goal.{Goal}
-use Rattle.witness.specs.Goals.{from, Starts, Ready, Splits, Spelled, Stands, Pairs}
+use Rattle.witness.specs.Goals.{from, Starts, Ready, Splits, Stands, Pairs}
 use Rattle.witness.specs.Plan.{statesIn, endsIn, Setting, Known}
 use Rattle.witness.proofs.Firsts.{entry-same, gone}
-use Rattle.witness.proofs.Writers.{spelled-as}
+use Rattle.witness.proofs.Writers.{stored-as}
 
 -- A run looks at no turn end but the first n.
 path-ends : {t : Thread} {turn : ℕ → ℕ} {e f : ℕ → TurnEnd} {n : ℕ} → ((j : ℕ) → j < n → e j ≡ f j)
@@ -151,9 +152,9 @@ module _ {t : Thread} {i : ThreadId} {G n : ℕ} {line tab plan : List ℕ} (K :
         (t .first .0 ∷ []) refl))
 
     pub written : {count : ℕ} {old new : List ℕ}
-        → Spelled (Pairs setting (from whole) (t .first .0) 16 (stay (control n (lastState i n line)))) count 0 old new
-        → Spelled (RunAlong t i n g line) count 0 old new
-    written r = spelled-as (λ us p. run p) r
+        → Stored (Pairs setting (from whole) (t .first .0) 16 (stay (control n (lastState i n line)))) count 0 old new
+        → Stored (RunAlong t i n g line) count 0 old new
+    written r = stored-as (λ us p. run p) r
 
 -- The goal of a whole thread, from the parts of its line.
 pub starts : (i : ThreadId) (n g G v top : ℕ) {s turn e : ℕ} → s ≡ firstState i g (digits G (2 * n + 2) v) → s < G

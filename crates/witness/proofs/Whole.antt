@@ -1,26 +1,32 @@
 -- The schedule of a line: each thread's least steps along it are those of its views, and two views of one line, merged by
 -- turn, are a run.
 use mathlib.Core.List.{List}
-use mathlib.Core.Path.{_≡_, ap, _∙_}
+use mathlib.Core.Path.{_≡_, _∙_}
 use Prim.Native.Nat.{ℕ, suc, _+_, _-_, _*_, _^_, _≤_, _<_}
 use native.Mathlib.Omega.{arith}
-use lib.ListN.{length}
-use lib.Seq.{sets}
+use lib.ListN.{length, take}
+use lib.Seq.{sets, length-take-le}
 use Rattle.model.specs.declared.Model.{Model}
 use Rattle.model.specs.Lines.{digits}
-use Rattle.model.specs.Walk.{ThreadId, A, B, threadOf, bytesOf}
+use Rattle.model.specs.Runs.{Turns}
+use Rattle.model.specs.Schedules.{bytesOf, stepsOf, Stored}
+use Rattle.model.specs.Walk.{ThreadId, A, B, threadOf, startStacks}
 use Rattle.model.proofs.Positions.{length-digits}
+use Rattle.model.proofs.Stores.{stored-steps}
 use Rattle.reach.specs.Cost.{RunAlong, LeastAlong, ViewCost}
 use Rattle.reach.proofs.Along.{line-view}
-use Rattle.witness.specs.Goals.{Spelled}
-use Rattle.witness.specs.Merge.{merge, stepsIn}
-use Rattle.witness.specs.Written.{Chosen, Written}
+use Rattle.witness.specs.Chosen.{Chosen}
+use Rattle.witness.specs.Merge.{merge}
 use Rattle.witness.proofs.Merging.{merged-turns, merge-length}
-use Rattle.witness.proofs.Sides.{stored-steps}
 
 -- K rounds are K − 1 turn ends and one more.
 rounds : (k : ℕ) → 1 ≤ k → 2 * suc (k - 1) ≡ 2 * k
 rounds k h = omega arith
+
+-- A schedule store has room for the steps of both threads.
+pub fronts-fit : (a b : List ℕ) (x y : ℕ) {n : ℕ} → 2 * x ≤ length a → 2 * y ≤ length b → x + y ≤ 4095 → 8190 ≤ n
+    → length (take (2 * x) a) + length (take (2 * y) b) ≤ n
+fronts-fit a b x y h k most room = omega (arith, length-take-le (2 * x) a h, length-take-le (2 * y) b k)
 
 -- The least steps of a thread's views of a full line are those of its runs along it.
 along-cost : (m : Model) (i : ThreadId) (n : ℕ) (line : List ℕ) {cost : ℕ} → length line ≡ 2 * suc n
@@ -48,20 +54,19 @@ module _ (m : Model) {v x y : ℕ} (k : 1 ≤ m .k) (c : Chosen m v x y) where
 
   -- Both threads' steps, merged, are the line's schedule.
   pub written : {s t a b old new : List ℕ}
-      → Spelled (RunAlong (m .a) A (m .k - 1) (m .start .0) (digits (m .g) (2 * suc (m .k - 1)) v)) x 0 s a
-      → Spelled (RunAlong (m .b) B (m .k - 1) (m .start .0) (digits (m .g) (2 * suc (m .k - 1)) v)) y 0 t b
+      → Stored (RunAlong (m .a) A (m .k - 1) (m .start .0) (digits (m .g) (2 * suc (m .k - 1)) v)) x 0 s a
+      → Stored (RunAlong (m .b) B (m .k - 1) (m .start .0) (digits (m .g) (2 * suc (m .k - 1)) v)) y 0 t b
       → 2 * x ≤ length s → 2 * y ≤ length t
-      → new ≡ sets old 0 (bytesOf (merge (stepsIn x a) (stepsIn y b))) → Written m (digits (m .g) (2 * m .k) v) (x + y) old new
-  written {s} {t} {a} {b} {old} {new} p q i j e =
+      → new ≡ sets old 0 (bytesOf (merge (stepsOf (take (2 * x) a)) (stepsOf (take (2 * y) b))))
+      → Stored (Turns m 0 (m .start .0) (startStacks m) (digits (m .g) (2 * m .k) v)) (x + y) 0 old new
+  written {a = a} {b} p q i j e =
       let line : List ℕ = digits (m .g) (2 * suc (m .k - 1)) v in
       let size = length-digits (m .g) (2 * suc (m .k - 1)) v in
-      let first : stepsIn x a ≡ p .steps = ap (stepsIn x) (p .stored) ∙ stored-steps (p .steps) s (p .number) i in
-      let second : stepsIn y b ≡ q .steps = ap (stepsIn y) (q .stored) ∙ stored-steps (q .steps) t (q .number) j in
       let one = line-view m A (m .k - 1) (m .start .0) _ line (p .steps) size .1 (p .run) in
       let other = line-view m B (m .k - 1) (m .start .0) _ line (q .steps) size .1 (q .run) in
       record {
         steps = merge (p .steps) (q .steps);
         run = rw (rounds (m .k) k) at (merged-turns one other);
-        count = merge-length (p .steps) (q .steps) ∙ omega (arith, p .number, q .number);
-        stored = rw (first, second) at e;
+        count = merge-length (p .steps) (q .steps) ∙ omega (arith, p .count, q .count);
+        shown = rw (stored-steps p i, stored-steps q j) at e;
       }

@@ -9,7 +9,8 @@ use lib.ListN.{length, getD, set, length-append}
 use Rattle.model.specs.declared.Right.the-variants.{Remove, Swap, Push}
 use Rattle.model.specs.declared.Rule.{Rule}
 use Rattle.model.specs.declared.Symbol.{Symbol}
-use Rattle.model.specs.Walk.{ThreadId, A, B, Step, bytesOf}
+use Rattle.model.specs.Schedules.{bytesOf, Stored}
+use Rattle.model.specs.Walk.{ThreadId, A, B, Step}
 use Rattle.model.proofs.Inside.{applies-iff}
 use Rattle.model.proofs.Stores.{sets-append, length-bytes, bytes-append}
 use Rattle.reach.specs.Cost.{control}
@@ -17,7 +18,7 @@ use Rattle.reach.specs.Ends.{turnOf}
 use Rattle.summary.specs.Control.{Control, Moves, Switches, dest}
 use Rattle.summary.specs.Stretch.{End, pop, stay, Stretch}
 use Rattle.witness.specs.declared.goal.Goal.{Goal}
-use Rattle.witness.specs.Goals.{from, entryOf, movedTo, entered, goneAt, restAt, Sums, Splits, Tight, Spelled, Stands, Stretches, Pairs}
+use Rattle.witness.specs.Goals.{from, entryOf, movedTo, entered, goneAt, restAt, Sums, Splits, Tight, Stands, Stretches, Pairs}
 use Rattle.witness.specs.Plan.{rulesIn, turnIn, endsIn, ruleIn, Setting}
 use Rattle.witness.proofs.Firsts.{in-time, control-is, entry-same, exact, moved-stands, entered-stands, First, step, turn, first}
 
@@ -35,34 +36,34 @@ pub part-low : (x a b count : ℕ) → x ≡ a → a + b ≡ count → x ≤ cou
 part-low x a b count e h = omega arith
 
 -- The same steps as those of another run.
-pub spelled-as : {P Q : List Step → Type 0} {count at : ℕ} {old new : List ℕ} → ((us : List Step) → P us → Q us)
-    → Spelled P count at old new → Spelled Q count at old new
-spelled-as f r = record { steps = r .steps; run = f (r .steps) (r .run); number = r .number; stored = r .stored }
+pub stored-as : {P Q : List Step → Type 0} {count at : ℕ} {old new : List ℕ} → ((us : List Step) → P us → Q us)
+    → Stored P count at old new → Stored Q count at old new
+stored-as f r = record { steps = r .steps; run = f (r .steps) (r .run); count = r .count; shown = r .shown }
 
 -- One step before others.
-first-spelled : {P Q : List Step → Type 0} {count at : ℕ} {old new : List ℕ} (s : Step) → ((us : List Step) → P us → Q (s ∷ us))
-    → 0 < count → Spelled P (count - 1) (at + 2) (set (set old at (s .turn)) (at + 1) (s .rule)) new → Spelled Q count at old new
-first-spelled {count = count} {at = at} {old = old} s f h r =
+first-stored : {P Q : List Step → Type 0} {count at : ℕ} {old new : List ℕ} (s : Step) → ((us : List Step) → P us → Q (s ∷ us))
+    → 0 < count → Stored P (count - 1) (at + 2) (set (set old at (s .turn)) (at + 1) (s .rule)) new → Stored Q count at old new
+first-stored {count = count} {at = at} {old = old} s f h r =
     record {
       steps = s ∷ r .steps;
       run = f (r .steps) (r .run);
-      number = omega (arith, r .number);
-      stored = let two : at + 2 ≡ suc (suc at) = omega arith in rw (two, add-one at) at (r .stored);
+      count = omega (arith, r .count);
+      shown = let two : at + 2 ≡ suc (suc at) = omega arith in rw (two, add-one at) at (r .shown);
     }
 
 -- Two runs one after the other.
-pub both-spelled : {P Q R : List Step → Type 0} {x count at : ℕ} {old mid new : List ℕ}
+pub both-stored : {P Q R : List Step → Type 0} {x count at : ℕ} {old mid new : List ℕ}
     → ((xs ys : List Step) → P xs → Q ys → R (xs ++ ys)) → x ≤ count
-    → Spelled P x at old mid → Spelled Q (count - x) (at + 2 * x) mid new → Spelled R count at old new
-both-spelled {x = x} {count = count} {at = at} {old = old} f h r q =
+    → Stored P x at old mid → Stored Q (count - x) (at + 2 * x) mid new → Stored R count at old new
+both-stored {x = x} {count = count} {at = at} {old = old} f h r q =
     record {
       steps = r .steps ++ q .steps;
       run = f (r .steps) (q .steps) (r .run) (q .run);
-      number = length-append (r .steps) (q .steps) ∙ omega (arith, r .number, q .number);
-      stored =
-          let place : at + 2 * x ≡ at + length (bytesOf (r .steps)) = omega (arith, length-bytes (r .steps), r .number) in
-          rw (bytes-append (r .steps) (q .steps), ← sets-append old at (bytesOf (r .steps)) (bytesOf (q .steps)), ← r .stored, ← place)
-          (q .stored);
+      count = length-append (r .steps) (q .steps) ∙ omega (arith, r .count, q .count);
+      shown =
+          let place : at + 2 * x ≡ at + length (bytesOf (r .steps)) = omega (arith, length-bytes (r .steps), r .count) in
+          rw (bytes-append (r .steps) (q .steps), ← sets-append old at (bytesOf (r .steps)) (bytesOf (q .steps)), ← r .shown, ← place)
+          (q .shown);
     }
 
 module _ {tab plan : List ℕ} (w : Setting tab plan) where
@@ -84,14 +85,14 @@ module _ {tab plan : List ℕ} (w : Setting tab plan) where
 
   -- A goal of no step: nothing is written.
   pub stopped : {g : Goal} {d : End Control} {count : ℕ} (at : ℕ) (old : List ℕ) → Stands w g d → g .symbol ≤ 16
-      → entryOf tab plan g ≡ count → count ≡ 0 → Spelled (Stretches w (from g) (g .symbol) d) count at old old
+      → entryOf tab plan g ≡ count → count ≡ 0 → Stored (Stretches w (from g) (g .symbol) d) count at old old
   stopped {g} {d} {count} at old s q e z =
       let u = exact w (from g) (g .symbol) d (s .start) q (s .stop) .some (omega (arith, entry-same w s)) in
       go (u .0) (u .1) (omega (arith, u .2, entry-same w s))
     where
       go : (us : List Step) → Stretches w (from g) (g .symbol) d us → length us ≡ 0
-          → Spelled (Stretches w (from g) (g .symbol) d) count at old old
-      go [] r h = record { steps = []; run = r; number = sym z; stored = refl }
+          → Stored (Stretches w (from g) (g .symbol) d) count at old old
+      go [] r h = record { steps = []; run = r; count = sym z; shown = refl }
       go (x ∷ us) r h = absurd (omega arith)
 
   -- The turn ends where no rule is tight.
@@ -99,23 +100,23 @@ module _ {tab plan : List ℕ} (w : Setting tab plan) where
       → entryOf tab plan g ≡ count → 0 < count → count ≤ 4095
       → ((i : ℕ) → i < rulesIn plan → Tight tab plan g count (ruleIn plan i) → ⊥)
       → (g .passed < g .until → (h ≡ endsIn plan (g .passed) .enter) × (Stands w (entered g h) d → entryOf tab plan (entered g h) ≡ count
-      → Spelled (Stretches w (from (entered g h)) (g .symbol) d) count at old new))
-      → Spelled (Stretches w (from g) (g .symbol) d) count at old new
+      → Stored (Stretches w (from (entered g h)) (g .symbol) d) count at old new))
+      → Stored (Stretches w (from g) (g .symbol) d) count at old new
   turned {g} {d} {count} {at} {old} {new} {h} s q e low high none next = go (first w s q e low high)
     where
-      go : First w g count → Spelled (Stretches w (from g) (g .symbol) d) count at old new
+      go : First w g count → Stored (Stretches w (from g) (g .symbol) d) count at old new
       go (step t) = absurd (none (t .0) (t .1) (t .2))
       go (turn k f) =
           let i : g .passed + 1 ≤ g .until = in-time tab plan (entered g (endsIn plan (g .passed) .enter)) (omega arith) in
           let n = next (omega arith) in
           let r = rw (n .0) at (n .1) in
-          spelled-as (λ us p rest. Stretch.change k (p rest)) (r (entered-stands w k s) f)
+          stored-as (λ us p rest. Stretch.change k (p rest)) (r (entered-stands w k s) f)
 
   module _ {g : Goal} {d : End Control} {count at : ℕ} {old new : List ℕ} (s : Stands w g d) (low : 0 < count) (r : ℕ)
       (l : r < rulesIn plan) (t : Tight tab plan g count (ruleIn plan r)) where
     -- The symbol is removed by the one step.
     pub removed : ruleIn plan r .right ≡ Remove → new ≡ set (set old at (turnIn plan (g .passed))) (at + 1) r
-        → Spelled (Stretches w (from g) (g .symbol) d) count at old new
+        → Stored (Stretches w (from g) (g .symbol) d) count at old new
     removed x e = go d s
       where
         gone : (c : Control) {c₁ : Control} {u : Step} → c₁ ≡ c
@@ -125,7 +126,7 @@ module _ {tab plan : List ℕ} (w : Setting tab plan) where
             subst (λ q. Stretch (Moves (w .thread) (turnOf (w .id))) (Switches (endsIn plan) (w .n)) (from g) (g .symbol) (pop q) (u ∷ rest) rest) e
             (Stretch.remove m)
 
-        go : (d : End Control) → Stands w g d → Spelled (Stretches w (from g) (g .symbol) d) count at old new
+        go : (d : End Control) → Stands w g d → Stored (Stretches w (from g) (g .symbol) d) count at old new
         go (pop c) s =
             let b = rw x at (t .2) in
             let m = rw x at (move-of g count r l t) in
@@ -133,8 +134,8 @@ module _ {tab plan : List ℕ} (w : Setting tab plan) where
             record {
               steps = record { turn = turnIn plan (g .passed); rule = r } ∷ [];
               run = gone c same m;
-              number = sym (b .0);
-              stored = rw add-one at e;
+              count = sym (b .0);
+              shown = rw add-one at e;
             }
         go (stay c) s = let b = rw x at (t .2) in absurd (omega (arith, s .dest, moved-stands w (move-of g count r l t) s 0 .start .1, w .four))
 
@@ -142,24 +143,24 @@ module _ {tab plan : List ℕ} (w : Setting tab plan) where
     pub swapped : (a : Symbol) → ruleIn plan r .right ≡ Swap a
         → (Stands w (movedTo g (ruleIn plan r .after .0) (a .0)) d
         → entryOf tab plan (movedTo g (ruleIn plan r .after .0) (a .0)) ≡ count - 1
-        → Spelled (Stretches w (from (movedTo g (ruleIn plan r .after .0) (a .0))) (a .0) d) (count - 1) (at + 2)
+        → Stored (Stretches w (from (movedTo g (ruleIn plan r .after .0) (a .0))) (a .0) d) (count - 1) (at + 2)
         (set (set old at (turnIn plan (g .passed))) (at + 1) r) new)
-        → Spelled (Stretches w (from g) (g .symbol) d) count at old new
+        → Stored (Stretches w (from g) (g .symbol) d) count at old new
     swapped a x next =
         let m = rw x at (move-of g count r l t) in
-        first-spelled (record { turn = turnIn plan (g .passed); rule = r }) (λ us p rest. Stretch.swap m (p rest)) low
+        first-stored (record { turn = turnIn plan (g .passed); rule = r }) (λ us p rest. Stretch.swap m (p rest)) low
         (next (moved-stands w m s (a .0)) (rw x at (t .2)))
 
     -- Two symbols stand in its place.
     pub pushed : (a b : Symbol) → ruleIn plan r .right ≡ Push a b
         → (Stands w (movedTo g (ruleIn plan r .after .0) (a .0)) d
         → Splits tab plan (movedTo g (ruleIn plan r .after .0) (a .0)) (b .0) (count - 1)
-        → Spelled (Pairs w (from (movedTo g (ruleIn plan r .after .0) (a .0))) (a .0) (b .0) d) (count - 1) (at + 2)
+        → Stored (Pairs w (from (movedTo g (ruleIn plan r .after .0) (a .0))) (a .0) (b .0) d) (count - 1) (at + 2)
         (set (set old at (turnIn plan (g .passed))) (at + 1) r) new)
-        → Spelled (Stretches w (from g) (g .symbol) d) count at old new
+        → Stored (Stretches w (from g) (g .symbol) d) count at old new
     pushed a b x next =
         let m = rw x at (move-of g count r l t) in
-        first-spelled (record { turn = turnIn plan (g .passed); rule = r }) (λ us p rest. both-of m p rest) low
+        first-stored (record { turn = turnIn plan (g .passed); rule = r }) (λ us p rest. both-of m p rest) low
         (next (moved-stands w m s (a .0)) (rw x at (t .2)))
       where
         both-of : {c c₁ : Control} {γ : ℕ} {s : Step} {us : List Step} {d : End Control}
@@ -170,21 +171,21 @@ module _ {tab plan : List ℕ} (w : Setting tab plan) where
 
   -- A pair whose second symbol is not touched.
   pub kept : {g : Goal} {d : End Control} {below count at : ℕ} {old new : List ℕ} → Stands w g d → 4 ≤ g .dest
-      → Spelled (Stretches w (from g) (g .symbol) d) count at old new
-      → Spelled (Pairs w (from g) (g .symbol) below d) count at old new
+      → Stored (Stretches w (from g) (g .symbol) d) count at old new
+      → Stored (Pairs w (from g) (g .symbol) below d) count at old new
   kept {d = pop c} s h r = absurd (omega (arith, s .dest, s .stop .1, w .four))
-  kept {d = stay c} s h r = spelled-as (λ us p. Pairs.above p) r
+  kept {d = stay c} s h r = stored-as (λ us p. Pairs.above p) r
 
   -- A pair whose first symbol is gone at control y.
   pub parted : {g : Goal} {d : End Control} {below count at x : ℕ} {old mid new : List ℕ} (y : ℕ) → Stands w g d → count ≤ 4095
       → x ≡ entryOf tab plan (goneAt g y) → Sums tab plan g below count y
       → (Stands w (goneAt g y) (pop (control (y / 4) (y % 4)))
-      → Spelled (Stretches w (from g) (g .symbol) (pop (control (y / 4) (y % 4)))) x at old mid)
+      → Stored (Stretches w (from g) (g .symbol) (pop (control (y / 4) (y % 4)))) x at old mid)
       → (Stands w (restAt g below y) d → entryOf tab plan (restAt g below y) ≡ count - x
-      → Spelled (Stretches w (control (y / 4) (y % 4)) below d) (count - x) (at + 2 * x) mid new)
-      → Spelled (Pairs w (from g) (g .symbol) below d) count at old new
+      → Stored (Stretches w (control (y / 4) (y % 4)) below d) (count - x) (at + 2 * x) mid new)
+      → Stored (Pairs w (from g) (g .symbol) below d) count at old new
   parted {g} {d} {below} {count} {at} {x} y s high e t one other =
       let i : y / 4 ≤ w .n = omega (arith, in-time tab plan (restAt g below y) (omega (arith, t .1)), s .stop .0, s .until) in
-      both-spelled (λ xs ys p q. Pairs.both xs ys p q) (omega (arith, t .1))
+      both-stored (λ xs ys p q. Pairs.both xs ys p q) (omega (arith, t .1))
       (one (record { start = s .start; stop = (i, t .0); until = refl; dest = refl }))
       (other (record { start = (i, t .0); stop = s .stop; until = s .until; dest = s .dest }) (omega (arith, t .1)))

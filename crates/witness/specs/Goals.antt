@@ -5,12 +5,11 @@ use mathlib.Core.Path.{_≡_}
 use Prim.Native.Nat.{ℕ, _+_, _-_, _/_, _%_, _≤_, _<_}
 use lib.Dec.{leb}
 use lib.ListN.{length}
-use lib.Seq.{sets}
 use Rattle.model.specs.declared.Right.{Right}
 use Rattle.model.specs.declared.Right.the-variants.{Remove, Swap, Push}
 use Rattle.model.specs.declared.Rule.{Rule}
 use Rattle.model.specs.declared.Symbol.{Symbol}
-use Rattle.model.specs.Walk.{ThreadId, Step, bytesOf}
+use Rattle.model.specs.Walk.{ThreadId, Step}
 use Rattle.reach.specs.Ends.{turnOf, firstState, lastState}
 use Rattle.summary.specs.Cells.{size}
 use Rattle.summary.specs.Control.{Control, Moves, Switches, dest, placeOf, InTable}
@@ -102,13 +101,6 @@ Goes plan g r (One next) =
 Goes plan g r (Two next below) =
     (a : Symbol) × (b : Symbol) × (ruleIn plan r .right ≡ Push a b) × (next ≡ movedTo g (ruleIn plan r .after .0) (a .0))
     × (below ≡ b .0)
-
--- The steps of some run, of a number that is given, stand in a store from a place on; all else is as it was.
-pub record Spelled (Run : List Step → Type 0) (count at : ℕ) (old new : List ℕ) : Type 0 where
-  pub steps : List Step
-  pub run : Run steps
-  pub number : length steps ≡ count
-  pub stored : new ≡ sets old at (bytesOf steps)
 
 -- A goal has a place in the setting's table, and d is where it ends.
 pub record Stands {tab plan : List ℕ} (w : Setting tab plan) (g : Goal) (d : End Control) : Type 0 where

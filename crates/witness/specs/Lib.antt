@@ -1,4 +1,4 @@
+pub mod Chosen
 pub mod Goals
 pub mod Merge
 pub mod Plan
-pub mod Written

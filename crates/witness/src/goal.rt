@@ -1,6 +1,6 @@
 // What the writers are asked for: a stretch (summary) from a control with a symbol on top to a destination.
 ghost use mathlib.Core.Path.{_≡_};
-ghost use Prim.Native.Nat.{_≤_, _<_};
+ghost use Prim.Native.Nat.{_≤_};
 ghost use Rattle.witness.specs.Goals.{movedTo, entered, goneAt, restAt};
 
 // From `passed` turn ends of the thread and state `shared`, with `symbol` on top, to `until` turn ends and a destination:

@@ -3,7 +3,10 @@ ghost use Prim.Native.Nat.{_+_, _*_, _≤_};
 ghost use lib.ListN.{length};
 ghost use Rattle.model.specs.Fits.{Fits};
 ghost use Rattle.model.specs.Lines.{digits};
-ghost use Rattle.witness.specs.Written.{Chosen, Written};
+ghost use Rattle.model.specs.Runs.{Turns};
+ghost use Rattle.model.specs.Schedules.{Stored};
+ghost use Rattle.model.specs.Walk.{startStacks};
+ghost use Rattle.witness.specs.Chosen.{Chosen};
 
 pub mod goal;
 pub mod merge;
@@ -19,7 +22,10 @@ use model::Model;
 // Writes a shortest schedule along the full line whose value is v, where x and y are the least steps of A and of B along it.
 pub fn write(m: Model, v: usize, x: u64, y: u64, schedule: &mut [u8])
     requires { ⌜ Fits m ⌝ ∗ ⌜ Chosen m v x y ⌝ ∗ ⌜ 8190 ≤ length (now schedule) ⌝ }
-    ensures { λ _. ⌜ Written m (digits (m .g) (2 * m .k) v) (x + y) (now (schedule .entry)) (now (schedule .exit)) ⌝ }
+    ensures { λ _. ⌜
+        Stored (Turns m 0 (m .start .0) (startStacks m) (digits (m .g) (2 * m .k) v)) (x + y) 0
+        (now (schedule .entry)) (now (schedule .exit))
+        ⌝ }
 {
     let g = m.g as usize;
     let n = m.k as usize - 1;
@@ -28,5 +34,7 @@ pub fn write(m: Model, v: usize, x: u64, y: u64, schedule: &mut [u8])
     let mut b = [0u8; 8190];
     steps::steps(m.a, g, n, false, start, v, x as usize, &mut a);
     steps::steps(m.b, g, n, true, start, v, y as usize, &mut b);
-    merge::merge(&a, x as usize, &b, y as usize, schedule);
+    let end_a = 2 * x as usize;
+    let end_b = 2 * y as usize;
+    merge::merge(&a[..end_a], &b[..end_b], schedule);
 }

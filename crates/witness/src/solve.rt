@@ -1,7 +1,7 @@
 // The table of a thread, solved for as many turn ends as its line has.
 use model::Thread;
-use summary::plain::close_plain;
 use summary::turns::close_first;
+use summary::turns::close_plain;
 use summary::turns::close_second;
 ghost use mathlib.Core.Path.{_≡_};
 ghost use Prim.Native.Nat.{ℕ, _≤_, _<_};

@@ -14,9 +14,10 @@ ghost use Prim.Native.Nat.{suc, _*_, _^_, _≤_, _<_};
 ghost use lib.ListN.{length};
 ghost use Rattle.model.specs.Fits.{ThreadFits};
 ghost use Rattle.model.specs.Lines.{digits};
+ghost use Rattle.model.specs.Schedules.{Stored};
 ghost use Rattle.reach.specs.Cost.{idOf, RunAlong, LeastAlong};
 ghost use Rattle.summary.specs.Cells.{size};
-ghost use Rattle.witness.specs.Goals.{Spelled, Starts};
+ghost use Rattle.witness.specs.Goals.{Starts};
 ghost use Rattle.witness.specs.Plan.{Known};
 
 // Writes a thread's steps along the full line whose value is v, with n turn ends: `count`, the least there are.
@@ -35,7 +36,7 @@ pub fn steps(
         LeastAlong th (idOf other) n start (digits g (2 * suc n) v) count × (count ≤ 4095) × (2 * count ≤ length (now out))
         ⌝ }
     ensures { λ _. ⌜
-        Spelled (RunAlong th (idOf other) n start (digits g (2 * suc n) v)) count 0 (now (out .entry)) (now (out .exit))
+        Stored (RunAlong th (idOf other) n start (digits g (2 * suc n) v)) count 0 (now (out .entry)) (now (out .exit))
         ⌝ }
 {
     let mut table = [0u64; 17952];

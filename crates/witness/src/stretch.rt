@@ -13,9 +13,10 @@ use crate::tight::middle;
 ghost use mathlib.Core.Path.{_≡_};
 ghost use Prim.Native.Nat.{_+_, _*_, _≤_};
 ghost use lib.ListN.{length};
+ghost use Rattle.model.specs.Schedules.{Stored};
 ghost use Rattle.summary.specs.Control.{Control};
 ghost use Rattle.summary.specs.Stretch.{End};
-ghost use Rattle.witness.specs.Goals.{from, entryOf, Ready, Splits, Spelled, Stands, Stretches, Pairs};
+ghost use Rattle.witness.specs.Goals.{from, entryOf, Ready, Splits, Stands, Stretches, Pairs};
 ghost use Rattle.witness.specs.Plan.{Setting};
 
 // Writes the steps of a stretch from place `at` on: just so many as the table says, which is `count`.
@@ -24,7 +25,7 @@ pub fn stretch(t: &[u64], plan: &[u8], goal: Goal, count: usize, out: &mut [u8],
     ensures { λ _. ⌜
         ((w : Setting (now (t .entry)) (now (plan .entry))) (d : End Control) → Stands w goal d
         → entryOf (now (t .entry)) (now (plan .entry)) goal ≡ count
-        → Spelled (Stretches w (from goal) (goal .symbol) d) count at (now (out .entry)) (now (out .exit)))
+        → Stored (Stretches w (from goal) (goal .symbol) d) count at (now (out .entry)) (now (out .exit)))
         ⌝ }
 {
     if count == 0 {
@@ -61,7 +62,7 @@ pub fn pair(
     ensures { λ _. ⌜
         ((w : Setting (now (t .entry)) (now (plan .entry))) (d : End Control) → Stands w goal d
         → Splits (now (t .entry)) (now (plan .entry)) goal below count
-        → Spelled (Pairs w (from goal) (goal .symbol) below d) count at (now (out .entry)) (now (out .exit)))
+        → Stored (Pairs w (from goal) (goal .symbol) below d) count at (now (out .entry)) (now (out .exit)))
         ⌝ }
 {
     if above(t, plan, goal, count) {

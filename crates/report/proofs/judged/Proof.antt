@@ -1,9 +1,12 @@
 -- `judged` meets its contract: each verdict's text is put, and a valid model is never refused.
+use mathlib.Core.Path.{sym}
 use native.Mathlib.Nat.{le-trans}
 use native.Mathlib.Omega.{arith}
+use lib.Seq.{length-take-le}
 use borrow.Author.Needs.{needs}
+use Rattle.model.proofs.Stores.{stored-steps}
 use Rattle.report.proofs.Putting.{held, held-within}
-use Rattle.report.proofs.Telling.{not-refused, fills, found-room, front-steps, tells-clear, tells-long, tells-found}
+use Rattle.report.proofs.Telling.{not-refused, fills, found-room, tells-clear, tells-long, tells-found}
 use Rattle.report.proofs.judged.Statement.{statement}
 use Rattle.report.proofs.judged.Tie as tie
 
@@ -42,21 +45,21 @@ mul-end c =
     let told = rw (c .before .n .given .1) at (c .before .before .before .before .before .judge .ensures .0) in
     omega (arith, told .1 .0)
 
-sub-put-found : tie.Need-sub-put-found
-sub-put-found c = search needs
-
-part-put-found-start : tie.Need-part-put-found-start
-part-put-found-start c = search needs
-
-part-put-found-end : tie.Need-part-put-found-end
-part-put-found-end c =
-    let arm = c .before .before .before in
+array-share-prefix-schedule : tie.Need-array-share-prefix-schedule
+array-share-prefix-schedule c =
+    let arm = c .before .before in
     let told = rw (arm .n .given .1) at (arm .before .before .before .before .judge .ensures .0) in
     omega (arith, told .1 .0)
 
+slice-aggregate-put-found : tie.Need-slice-aggregate-put-found
+slice-aggregate-put-found c =
+    let arm = c .before .before .before in
+    let told = rw (arm .n .given .1) at (arm .before .before .before .before .judge .ensures .0) in
+    sym (length-take-le _ _ (omega (arith, told .1 .0)))
+
 put-found-requires : tie.Need-put-found-requires
 put-found-requires c κs =
-    let arm = c .before .before .before .before in
+    let arm = c .before .before .before in
     let told = rw (arm .n .given .1) at (arm .before .before .before .before .judge .ensures) in
     let start = arm .before .before .before .before .before .before .before .before in
     le-trans (found-room (start .pre .valid) (told .0 .1 .0) (told .1 .1) (search needs)) (start .pre .room .room)
@@ -90,10 +93,10 @@ same-length-3 c = search needs
 
 returns-3 : tie.Need-returns-3
 returns-3 c =
-    let arm = c .before .before .before .before .before .before .before in
+    let arm = c .before .before .before .before .before .before in
     let told = rw (arm .n .given .1) at (arm .before .before .before .before .judge .ensures) in
     let start = arm .before .before .before .before .before .before .before .before in
-    held-within (tells-found (told .0 .1) (told .1 .1) (front-steps (told .1 .1) (search needs))) (c .before .before .put-found .ensures)
+    held-within (tells-found (told .0 .1) (told .1 .1) (stored-steps (told .1 .1) (search needs))) (c .before .before .put-found .ensures)
     (found-room (start .pre .valid) (told .0 .1 .0) (told .1 .1) (search needs)) (start .pre .room .room)
 
 returns-4 : tie.Need-returns-4
@@ -117,9 +120,8 @@ judged-spec =
     put-requires
     enum-known-n
     mul-end
-    sub-put-found
-    part-put-found-start
-    part-put-found-end
+    array-share-prefix-schedule
+    slice-aggregate-put-found
     put-found-requires
     enum-known-n-2
     cast-result

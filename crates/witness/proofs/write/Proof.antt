@@ -1,7 +1,10 @@
 -- `write` meets its contract: each thread's steps along the line, merged by turn.
+use mathlib.Core.Path.{sym}
+use Prim.Native.Nat.{_*_}
 use native.Mathlib.Omega.{arith}
+use lib.Seq.{length-take-le}
 use borrow.Author.Needs.{needs}
-use Rattle.witness.proofs.Whole.{line-low, cost-first, cost-second, written}
+use Rattle.witness.proofs.Whole.{fronts-fit, line-low, cost-first, cost-second, written}
 use Rattle.witness.proofs.write.Statement.{statement}
 use Rattle.witness.proofs.write.Tie as tie
 
@@ -39,14 +42,33 @@ steps-requires-2 c κs =
       (cost-second _ (f .k .0) (p .1 .0), omega (arith, p .1 .0 .most), omega (arith, p .1 .0 .most)),
     )
 
+mul-end-a : tie.Need-mul-end-a
+mul-end-a c = search needs
+
+mul-end-b : tie.Need-mul-end-b
+mul-end-b c = search needs
+
+array-share-prefix-a : tie.Need-array-share-prefix-a
+array-share-prefix-a c = search needs
+
 slice-aggregate-merge : tie.Need-slice-aggregate-merge
-slice-aggregate-merge c = search needs
+slice-aggregate-merge c =
+    let c11 = c .before .before .before .before .before .before .before .before .before .before .before in
+    sym (length-take-le (2 * c11 .args .x) _ (omega (arith, c11 .pre .1 .0 .most)))
+
+array-share-prefix-b : tie.Need-array-share-prefix-b
+array-share-prefix-b c = search needs
 
 slice-aggregate-merge-2 : tie.Need-slice-aggregate-merge-2
-slice-aggregate-merge-2 c = search needs
+slice-aggregate-merge-2 c =
+    let c12 = c .before .before .before .before .before .before .before .before .before .before .before .before in
+    sym (length-take-le (2 * c12 .args .y) _ (omega (arith, c12 .pre .1 .0 .most)))
 
 merge-requires : tie.Need-merge-requires
-merge-requires c κs = search needs
+merge-requires c κs =
+    let c13 = c .before .before .before .before .before .before .before .before .before .before .before .before .before in
+    let most = c13 .pre .1 .0 .most in
+    fronts-fit _ _ (c13 .args .x) (c13 .args .y) (omega (arith, most)) (omega (arith, most)) most (c13 .pre .1 .1)
 
 same-length : tie.Need-same-length
 same-length c = search needs
@@ -55,8 +77,7 @@ returns : tie.Need-returns
 returns c =
     let c7 = c .before .before .before .before .before .before .before in
     let c10 = c7 .before .before .before in
-    let c16 = c10 .before .before .before .before .before .before in
-    let p = c16 .pre in
+    let p = c10 .before .before .before .before .before .before .pre in
     written _ (p .0 .k .0) (p .1 .0) (c10 .steps .ensures) (c7 .steps2 .ensures) (omega (arith, p .1 .0 .most))
     (omega (arith, p .1 .0 .most)) (c .before .before .merge .ensures)
 
@@ -72,7 +93,11 @@ write-spec =
     steps-requires
     slice-aggregate-steps-2
     steps-requires-2
+    mul-end-a
+    mul-end-b
+    array-share-prefix-a
     slice-aggregate-merge
+    array-share-prefix-b
     slice-aggregate-merge-2
     merge-requires
     same-length

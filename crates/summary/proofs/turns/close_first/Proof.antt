@@ -14,8 +14,8 @@ reset-requires c κs = search needs
 first-ends-requires : tie.Need-first-ends-requires
 first-ends-requires c κs = search needs
 
-settle-lanes-requires : tie.Need-settle-lanes-requires
-settle-lanes-requires c κs = search needs
+settle-requires : tie.Need-settle-requires
+settle-requires c κs = search needs
 
 same-length : tie.Need-same-length
 same-length c = search needs
@@ -25,13 +25,13 @@ returns c =
     let pre = c .before .before .before .before .before .before .before .before .before .before .before .before .before .pre in
     let reset = c .before .before .before .before .before .before .before .before .before .before .reset in
     let first-ends = c .before .before .before .before .before .before .first-ends in
-    let settle-lanes = c .before .before .settle-lanes in
+    let settle = c .before .before .settle in
     let both =
     solves-next (omega arith) (omega arith) (plain-span _ _ (pre .1) (pre .2)) (first-ends-span _ (pre .1))
-    (lane-span _ _ (pre .1) (pre .2) first) (pre .3) (reset .ensures) (first-ends .ensures) (settle-lanes .ensures) in
+    (lane-span _ _ (pre .1) (pre .2) first) (pre .3) (reset .ensures) (first-ends .ensures) (settle .ensures) in
     (both .0, first-summed (pre .2) (pre .1) (both .0))
 
 pub close-first-spec : {M : Type 1} → statement M
 close-first-spec =
     tie.close
-    (tie.spec reset-requires first-ends-requires settle-lanes-requires same-length returns)
+    (tie.spec reset-requires first-ends-requires settle-requires same-length returns)

@@ -16,17 +16,17 @@ reset-requires c κs = search needs
 second-ends-requires : tie.Need-second-ends-requires
 second-ends-requires c κs = search needs
 
-mul-cross-pass : tie.Need-mul-cross-pass
-mul-cross-pass c = search needs
+mul-lane : tie.Need-mul-lane
+mul-lane c = search needs
 
-add-cross-pass : tie.Need-add-cross-pass
-add-cross-pass c = search needs
+add-lane : tie.Need-add-lane
+add-lane c = search needs
 
-cross-pass-requires : tie.Need-cross-pass-requires
-cross-pass-requires c κs = search needs
+pass-requires : tie.Need-pass-requires
+pass-requires c κs = search needs
 
-settle-lanes-requires : tie.Need-settle-lanes-requires
-settle-lanes-requires c κs = search needs
+settle-requires : tie.Need-settle-requires
+settle-requires c κs = search needs
 
 same-length : tie.Need-same-length
 same-length c = search needs
@@ -36,13 +36,13 @@ returns c =
     let pre = c .before .before .before .before .before .before .before .before .before .before .before .before .before .before .before .before .before .pre in
     let reset = c .before .before .before .before .before .before .before .before .before .before .before .before .before .before .reset in
     let second-ends = c .before .before .before .before .before .before .before .before .before .before .second-ends in
-    let cross-pass = c .before .before .before .before .before .before .cross-pass in
-    let settle-lanes = c .before .before .settle-lanes in
+    let pass = c .before .before .before .before .before .before .pass in
+    let settle = c .before .before .settle in
     let both =
     solves-next (omega arith) (omega arith) (first-span _ _ (pre .1) (pre .4))
     (either (second-ends-span _ _ (pre .2) (pre .3)) (cross-span _ _ (pre .1) (pre .4) _ (omega arith)))
     (lane-span _ _ (pre .1) (pre .4) second) (pre .5) (reset .ensures)
-    (then (second-ends .ensures) (cross-pass .ensures)) (settle-lanes .ensures) in
+    (then (second-ends .ensures) (pass .ensures .0)) (settle .ensures) in
     (both .1, second-summed (pre .4) (pre .1) (apart (both .0)))
 
 pub close-second-spec : {M : Type 1} → statement M
@@ -51,9 +51,9 @@ close-second-spec =
     (tie.spec
     reset-requires
     second-ends-requires
-    mul-cross-pass
-    add-cross-pass
-    cross-pass-requires
-    settle-lanes-requires
+    mul-lane
+    add-lane
+    pass-requires
+    settle-requires
     same-length
     returns)

@@ -6,10 +6,14 @@ use Rattle.witness.proofs.merge.first_next.Statement.{statement}
 use Rattle.witness.proofs.merge.first_next.Tie as tie
 
 returns : tie.Need-returns
-returns c = only-first _ _ (search needs) (search needs) (search needs) (omega arith)
+returns c =
+    let args = c .before .args in
+    only-first (args .a .now) (args .b .now) {i = args .i} {j = args .j} (search needs) (omega arith)
 
 returns-2 : tie.Need-returns-2
-returns-2 c = only-second _ _ (search needs) (search needs) (search needs) (omega arith)
+returns-2 c =
+    let args = c .before .before .args in
+    only-second (args .a .now) (args .b .now) {i = args .i} {j = args .j} (search needs) (omega arith)
 
 mul-result : tie.Need-mul-result
 mul-result c = search needs
@@ -26,7 +30,7 @@ shared-slice-read-result-2 c = search needs
 returns-3 : tie.Need-returns-3
 returns-3 c =
     let args = c .before .before .before .before .args in
-    lower (args .a .now) (args .b .now) (search needs) (search needs) (omega arith) (omega arith)
+    lower (args .a .now) (args .b .now) (omega arith) (omega arith)
 
 pub first-next-spec : {M : Type 1} → statement M
 first-next-spec =

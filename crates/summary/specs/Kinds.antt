@@ -1,0 +1,19 @@
+-- The kinds of edges that a pass over all rules relaxes.
+use Prim.Native.Nat.{ℕ, _≤_, _<_}
+use Rattle.model.specs.declared.Rule.{Rule}
+use Rattle.summary.specs.declared.Kind.{Kind}
+use Rattle.summary.specs.declared.Kind.the-variants.{Plain, Lanes, Cross}
+use Rattle.summary.specs.Cells.{second, PlainRule, LaneRule, CrossRule}
+use Rattle.summary.specs.Edges.{Edge}
+
+-- The edges of a rule that are of a kind, with n states.
+abbrev pub RuleEdges : Kind → ℕ → Rule → Edge → Type 0
+RuleEdges Plain n r = PlainRule n r
+RuleEdges (Lanes base) n r = LaneRule base n r
+RuleEdges (Cross l) n r = CrossRule l n r
+
+-- The part of the table starts no later than the last, and the lane is one of sixteen.
+abbrev pub KindFits : Kind → Type 0
+KindFits Plain = Unit {0}
+KindFits (Lanes base) = base ≤ second
+KindFits (Cross l) = l < 16

@@ -1,0 +1,53 @@
+// The search: edges of a kind are relaxed for all rules of a thread, until nothing changes.
+use crate::Kind;
+use crate::cross::cross_rule;
+use crate::lanes::lane_rule;
+use crate::plain::plain_rule;
+use model::Rule;
+use model::Thread;
+ghost use mathlib.Core.Path.{_≡_};
+ghost use Prim.Native.Nat.{_*_, _≤_};
+ghost use lib.ListN.{length};
+ghost use Rattle.model.specs.Fits.{RuleFits, ThreadFits};
+ghost use Rattle.summary.specs.Cells.{size, Rules};
+ghost use Rattle.summary.specs.Edges.{Relaxed, Closes};
+ghost use Rattle.summary.specs.Kinds.{RuleEdges, KindFits};
+
+// Passes until one changes nothing.
+pub fn settle(t: &mut [u64], kind: Kind, n: usize, th: Thread)
+    requires { ⌜ (length (now t) ≡ size) × (n ≤ 4) × KindFits kind × ThreadFits n th ⌝ }
+    ensures { λ r. ⌜ Closes (Rules th (RuleEdges kind n)) (now (t .entry)) (now (t .exit)) ⌝ }
+{
+    let mut changes = 1;
+    while changes != 0 {
+        changes = pass(t, kind, n, th);
+    }
+}
+
+// The edges of all rules, once. How many cells have fallen.
+pub fn pass(t: &mut [u64], kind: Kind, n: usize, th: Thread) -> u64
+    requires { ⌜ (length (now t) ≡ size) × (n ≤ 4) × KindFits kind × ThreadFits n th ⌝ }
+    ensures { λ x. ⌜ Relaxed (Rules th (RuleEdges kind n)) (now (t .entry)) (now (t .exit)) x × (x ≤ 1088 * 64) ⌝ }
+{
+    let count = th.count;
+    let mut changes = 0;
+    let mut i = 0;
+    while i < count {
+        let rule = th.rules[i];
+        changes += relax(t, kind, n, rule);
+        i += 1;
+    }
+    changes
+}
+
+// The edges of one rule.
+fn relax(t: &mut [u64], kind: Kind, n: usize, r: Rule) -> u64
+    requires { ⌜ (length (now t) ≡ size) × (n ≤ 4) × KindFits kind × RuleFits n r ⌝ }
+    ensures { λ x. ⌜ Relaxed (RuleEdges kind n r) (now (t .entry)) (now (t .exit)) x × (x ≤ 1088) ⌝ }
+{
+    match kind {
+        Kind::Plain => plain_rule(t, n, r),
+        Kind::Lanes(base) => lane_rule(t, base, n, r),
+        Kind::Cross(l) => cross_rule(t, l, n, r),
+    }
+}

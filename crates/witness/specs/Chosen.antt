@@ -1,0 +1,13 @@
+-- What is asked for the schedule of a line.
+use Prim.Native.Nat.{ℕ, _+_, _*_, _^_, _≤_, _<_}
+use Rattle.model.specs.declared.Model.{Model}
+use Rattle.model.specs.Lines.{digits}
+use Rattle.model.specs.Walk.{A, B}
+use Rattle.reach.specs.Cost.{ViewCost}
+
+-- A full line, by its value, and the least steps of each thread along it: together no more than a schedule has room for.
+pub record Chosen (m : Model) (v x y : ℕ) : Type 0 where
+  pub low : v < m .g ^ (2 * m .k)
+  pub a : ViewCost m A (digits (m .g) (2 * m .k) v) x
+  pub b : ViewCost m B (digits (m .g) (2 * m .k) v) y
+  pub most : x + y ≤ 4095
