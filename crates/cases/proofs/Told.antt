@@ -1,11 +1,10 @@
 -- What a closed set of places tells of a model: Clear, or how many steps reach the target at least, and which lines are not
 -- marked. A run that reaches the target is one along a full line that ends there, so it is at a place of the set.
 use mathlib.Core.Bool.{Bool, true, false, _&&_, _||_, not, cond}
-use mathlib.Core.List.{List, [], _∷_}
+use mathlib.Core.List.{List}
 use mathlib.Core.Logic.{_↔_, inl, inr}
 use mathlib.Core.Path.{_≡_, refl, sym, _∙_}
 use Prim.Native.Nat.{ℕ, _+_, _*_, _<_, _≤_}
-use native.Mathlib.Nat.{le-refl}
 use native.Mathlib.Omega.{arith}
 use lib.Dec.{T, T-not, leb, ltb, eqb, ltb→lt}
 use lib.ListN.{length, replicate, length-replicate, drop-of-length-le}
@@ -13,11 +12,10 @@ use Rattle.model.specs.declared.Model.{Model}
 use Rattle.model.specs.Lines.{bits, lineAt}
 use Rattle.model.specs.Runs.{Reaches, Marked}
 use Rattle.model.specs.Verdict.{clear, Judged, AtLeast}
-use Rattle.model.specs.Walk.{Config, Stacks, startStacks, Step, arrived, startOf, stepFrom, walk}
+use Rattle.model.specs.Walk.{Stacks, startStacks, Step}
 use Rattle.model.proofs.Positions.{line-at}
-use Rattle.model.proofs.Steps.{through, stepped}
 use Rattle.model.proofs.Tests.{both, order, equal}
-use Rattle.model.proofs.Turns.{TurnsBelow, legal-turns}
+use Rattle.model.proofs.Turns.{legal-full}
 use Rattle.reach.specs.Answer.{LineTable}
 use Rattle.reach.specs.Bits.{bitAt, bytesFor}
 use Rattle.cases.proofs.Explored.{closed, arrives, At, passes}
@@ -58,13 +56,6 @@ drawn m set store =
     eqb (length store) (bytesFor (m .g) (m .k)) && below (bits (m .g) (m .k)) (bitRight m set store) &&
     below (8 * bytesFor (m .g) (m .k)) (λ p. ltb p (bits (m .g) (m .k)) || not (bitAt store p))
 
--- The steps of a walk are made in the turns of K rounds.
-walk-below : (m : Model) (ss : List Step) (c : Config) {d : Config} → walk m c ss ≡ arrived d → TurnsBelow (2 * m .k) ss
-unfolding walk
-walk-below m [] c e = tt
-walk-below m (s ∷ ss) c e =
-    let z = through (stepFrom m c s) (λ d. walk m d ss) e in (stepped (z .1) .early, walk-below m ss (z .0) (z .2))
-
 -- A test that chooses between a thing's proof and its refutation decides it.
 decided : (b x y : Bool) {X : Type 0} → T (cond b x y) → (T x → X) → (T y → X → ⊥) → T b ↔ X
 decided true x y t f g = (λ h. f t, λ h. tt)
@@ -81,8 +72,7 @@ module _ (m : Model) (limit : ℕ) (set : List Place) (t : T (closed m limit set
   reached : 1 ≤ m .k → (ss : List Step) → Reaches m ss
       → (line : List ℕ) × (τ : Stacks) × At set line (length ss) (m .target .0) τ
   reached k ss r =
-      let a = legal-turns (2 * m .k) ss (m .target .0) (omega arith) (le-refl (2 * m .k)) .0
-      (walk-below m ss (startOf m) (r .walked), r) in
+      let a = legal-full ss (m .target .0) k .0 r in
       let z = arrives m limit set t (a .line) ss (omega (arith, a .size)) (a .turns) in
       (a .line, z .0, rw (a .last) at (z .1))
 

@@ -1,9 +1,8 @@
 -- The best line's steps are the least of all runs that reach the target: such a run goes along a full line that ends in the
 -- target, its steps are both threads' views of that line, and two views of one line join to a run along it.
-use mathlib.Core.List.{List, [], _∷_}
+use mathlib.Core.List.{List}
 use mathlib.Core.Path.{_≡_, sym, ap, subst, _∙_}
 use Prim.Native.Nat.{ℕ, _*_, _%_, _^_, _≤_, _<_}
-use native.Mathlib.Nat.{le-refl}
 use native.Mathlib.Omega.{arith}
 use lib.ListN.{length}
 use Rattle.model.specs.declared.Model.{Model}
@@ -11,27 +10,18 @@ use Rattle.model.specs.Fits.{Fits}
 use Rattle.model.specs.Lines.{States, lastOf, value, digits}
 use Rattle.model.specs.Runs.{Reaches, Turns}
 use Rattle.model.specs.Verdict.{clear, long, found, Judged}
-use Rattle.model.specs.Walk.{A, B, startStacks, Config, Step, arrived, stepFrom, walk}
+use Rattle.model.specs.Walk.{A, B, startStacks, Step}
 use Rattle.model.proofs.Inside.{inside}
 use Rattle.model.proofs.Positions.{length-digits, digits-value}
 use Rattle.model.proofs.Ranges.{valid-fits}
-use Rattle.model.proofs.Steps.{through, stepped}
-use Rattle.model.proofs.Turns.{TurnsBelow, Along, legal-turns}
-use Rattle.summary.specs.Table.{capped}
-use Rattle.reach.specs.Cost.{Least, BothCosts}
+use Rattle.model.proofs.Turns.{legal-full}
+use Rattle.summary.specs.Table.{capped, Least}
+use Rattle.reach.specs.Cost.{BothCosts}
 use Rattle.reach.proofs.Full.{last-digits}
 use Rattle.reach.proofs.Marks.{line-cost, full-cost}
 use Rattle.reach.proofs.Views.{views, joined}
 use Rattle.judge.specs.declared.Choice.{Choice}
 use Rattle.judge.specs.Best.{Best}
-
--- The steps of a walk that is not refused are made in turns below 2K.
-walk-below : (m : Model) (ss : List Step) (c : Config) {d : Config} → walk m c ss ≡ arrived d → TurnsBelow (2 * m .k) ss
-unfolding walk
-walk-below m [] c e = tt
-walk-below m (s ∷ ss) c e =
-    let gone = through (stepFrom m c s) (λ d. walk m d ss) e in
-    (stepped (gone .1) .early, walk-below m ss (gone .0) (gone .2))
 
 module _ {m : Model} where
   module _ (f : Fits m) where
@@ -39,19 +29,12 @@ module _ {m : Model} where
     pub run-reaches : {v : ℕ} {ss : List Step} → v < m .g ^ (2 * m .k) → v % m .g ≡ m .target .0
         → Turns m 0 (m .start .0) (startStacks m) (digits (m .g) (2 * m .k) v) ss → Reaches m ss
     run-reaches {v} {ss} low ends r =
-        let some : 0 < 2 * m .k = omega (arith, f .k) in
-        legal-turns (2 * m .k) ss (m .target .0) some (le-refl (2 * m .k)) .1 (record {
+        legal-full ss (m .target .0) (f .k .0) .1 (record {
           line = digits (m .g) (2 * m .k) v;
           size = length-digits (m .g) (2 * m .k) v;
           turns = r;
-          last = last-digits (m .g) (2 * m .k) v (m .start .0) (f .g .0) some low ∙ ends;
-        }) .1
-
-    -- A run that reaches the target goes along a full line.
-    along : {ss : List Step} → Reaches m ss → Along m (2 * m .k) ss (m .target .0)
-    along {ss} r =
-        legal-turns (2 * m .k) ss (m .target .0) (omega (arith, f .k)) (le-refl (2 * m .k)) .0
-        (walk-below m ss _ (r .walked), r)
+          last = last-digits (m .g) (2 * m .k) v (m .start .0) (f .g .0) (omega (arith, f .k)) low ∙ ends;
+        })
 
     -- The last state of a full line is the rest of its value by G.
     line-ends : (line : List ℕ) {target : ℕ} → length line ≡ 2 * m .k → States (m .g) line
@@ -80,7 +63,7 @@ module _ {m : Model} where
 
           least : {ss : List Step} → Reaches m ss → (c .steps ≤ 4096) × (c .steps ≤ length ss)
           least {ss} r =
-              let w = along r in
+              let w = legal-full ss (m .target .0) (f .k .0) .0 r in
               let states = inside (valid-fits m .1 f) (f .start) (w .turns) in
               let v = views (w .turns) in
               let x = full-cost m A a (f .k .0) (costs .0) (w .line) (w .size) states in

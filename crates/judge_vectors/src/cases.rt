@@ -2,7 +2,6 @@
 use judge::Judgement;
 use model::Model;
 use model::Thread;
-use reach::Outcome;
 use replay::Replayed;
 
 // The numbers of the verdicts in the files of cases.
@@ -32,18 +31,6 @@ fn refused(j: Judgement, number: u8) -> bool {
     }
 }
 
-// The call for line tables fills a store, and it then holds the same as another.
-fn same_lines(m: Model, lines: &[u8], store: &mut [u8]) -> bool {
-    let n = lines.len();
-    if store.len() < n {
-        return false;
-    }
-    match reach::lines(m, &mut store[0..n]) {
-        Outcome::Done => check::same(&store[0..n], lines),
-        Outcome::Refused(_) => false,
-    }
-}
-
 // Where the verdict is Found, a schedule store begins with a schedule of so many steps that replay finds to reach the target;
 // all other bytes are as they were.
 fn scheduled(m: Model, kind: u8, steps: usize, schedule: &[u8]) -> bool {
@@ -66,13 +53,9 @@ fn scheduled(m: Model, kind: u8, steps: usize, schedule: &[u8]) -> bool {
     }
 }
 
-// The judgement on a model and what it leaves in two stores.
-pub fn judged(m: Model, kind: u8, steps: usize, lines: &mut [u8], schedule: &mut [u8]) -> bool {
+// The judgement on a model and what it leaves in the schedule store.
+fn judged(m: Model, kind: u8, steps: usize, lines: &mut [u8], schedule: &mut [u8]) -> bool {
     if !is(judge::judge(m, lines, schedule), kind, steps as u64) {
-        return false;
-    }
-    let mut store = [170u8; 700];
-    if !same_lines(m, lines, &mut store) {
         return false;
     }
     scheduled(m, kind, steps, schedule)
@@ -98,22 +81,6 @@ pub fn agrees(bytes: &[u8], kind: u8, steps: usize, table: &[u8]) -> bool {
         return false;
     }
     check::same(&lines[0..n], table)
-}
-
-// The judgement writes just this schedule.
-pub fn writes(bytes: &[u8], expected: &[u8]) -> bool {
-    let reading = record::read(bytes);
-    let m = reading.model;
-    let mut lines = [170u8; 700];
-    let mut schedule = [170u8; 8200];
-    let n = expected.len();
-    if 8200 < n {
-        return false;
-    }
-    if refused(judge::judge(m, &mut lines, &mut schedule), 7) {
-        return false;
-    }
-    check::same(&schedule[0..n], expected)
 }
 
 // A model is judged with a line store of n bytes and a schedule store of 8,190; one byte less of either is refused by 7.

@@ -15,15 +15,13 @@ fn document() -> Tally {
     let two = vectors::TWO;
     let once = vectors::TWO_ONCE;
     let mut t = Tally::new();
-    t = t.counted(cases::agrees(&one, cases::FOUND, 1, &[39]));
-    t = t.counted(cases::writes(&one, &[0, 0]));
+    t = t.counted(cases::agrees(&one, cases::FOUND, 1, b"\x27"));
     t = t.counted(cases::agrees(&two, cases::FOUND, 4, &[]));
-    t = t.counted(cases::writes(&two, &[0, 0, 0, 1, 1, 0, 2, 2]));
-    t = t.counted(cases::agrees(&once, cases::CLEAR, 0, &[19, 6, 0]));
-    t = t.counted(clear(&[202, 1, 3, 2, 1, 0, 1, 1, 32, 3, 1, 3, 16, 2, 0]));
-    t = t.counted(clear(&[200, 3, 2, 1, 0, 1, 1, 32, 3, 1, 3, 16, 2, 0]));
-    t = t.counted(clear(&[202, 3, 3, 2, 1, 0, 1, 1, 32, 3, 1, 3, 16, 2, 0]));
-    t.counted(cases::agrees(&[8, 0], cases::FOUND, 0, &[]))
+    t = t.counted(cases::agrees(&once, cases::CLEAR, 0, b"\x13\x06\x00"));
+    t = t.counted(clear(b"\xCA\x01\x03\x02\x01\x00\x01\x01\x20\x03\x01\x03\x10\x02\x00"));
+    t = t.counted(clear(b"\xC8\x03\x02\x01\x00\x01\x01\x20\x03\x01\x03\x10\x02\x00"));
+    t = t.counted(clear(b"\xCA\x03\x03\x02\x01\x00\x01\x01\x20\x03\x01\x03\x10\x02\x00"));
+    t.counted(cases::agrees(b"\x08\x00", cases::FOUND, 0, &[]))
 }
 
 // Stores of just the size needed, and one byte less; models that no record holds: no states at all, and a thread with 65 rules.
@@ -34,15 +32,15 @@ fn limits() -> Tally {
     t = t.counted(cases::fits(&two, cases::FOUND, 4, 43));
     t = t.counted(cases::fits(&once, cases::CLEAR, 0, 3));
     t = t.counted(cases::fits(
-        &[202, 3, 3, 2, 1, 0, 1, 1, 32, 3, 1, 3, 16, 2, 0],
+        b"\xCA\x03\x03\x02\x01\x00\x01\x01\x20\x03\x01\x03\x10\x02\x00",
         cases::CLEAR,
         0,
         683,
     ));
     let mut bytes = [0u8; 131];
-    bytes[0] = 72;
-    bytes[1] = 1;
-    bytes[2] = 64;
+    bytes[0] = 0x48;
+    bytes[1] = 0x01;
+    bytes[2] = 0x40;
     t = t.counted(clear(&bytes));
     let reading = record::read(&bytes);
     let m = reading.model;

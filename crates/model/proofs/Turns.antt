@@ -19,6 +19,14 @@ abbrev pub TurnsBelow : ℕ → List Step → Type 0
 TurnsBelow n [] = Unit {0}
 TurnsBelow n (s ∷ ss) = (s .turn < n) × TurnsBelow n ss
 
+-- Those of a walk that is not refused are made in turns below 2K.
+walk-below : (m : Model) (ss : List Step) (c : Config) {d : Config} → walk m c ss ≡ arrived d → TurnsBelow (2 * m .k) ss
+unfolding walk
+walk-below m [] c e = tt
+walk-below m (s ∷ ss) c e =
+    let gone = through (stepFrom m c s) (λ d. walk m d ss) e in
+    (stepped (gone .1) .early, walk-below m ss (gone .0) (gone .2))
+
 -- A run from the start along some line of n states, its last one g, with these steps.
 pub record Along (m : Model) (n : ℕ) (ss : List Step) (g : ℕ) : Type 0 where
   pub line : List ℕ
@@ -122,6 +130,12 @@ module _ {m : Model} where
       from a =
           let w = walks (a .turns) 0 (le-refl 0) (omega (arith, a .size)) in
           (below (a .turns) n (omega (arith, a .size)), record { last = w .0; walked = w .1; ends = w .2 ∙ a .last })
+
+  -- A schedule is legal exactly if it is the steps of a run along a full line, of 2K states.
+  pub legal-full : (ss : List Step) (g : ℕ) → 1 ≤ m .k → Leads m ss g ↔ Along m (2 * m .k) ss g
+  legal-full ss g h =
+      let both = legal-turns (2 * m .k) ss g (omega arith) (le-refl (2 * m .k)) in
+      (λ l. both .0 (walk-below m ss _ (l .walked), l), λ a. both .1 a .1)
 
   -- Turns without steps after a run.
   padded : (d : ℕ) {t g : ℕ} {σ : Stacks} {line : List ℕ} {ss : List Step}

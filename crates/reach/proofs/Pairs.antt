@@ -16,12 +16,15 @@ use Rattle.model.proofs.Inside.{applies-iff}
 use Rattle.model.specs.Fits.{ThreadFits}
 use Rattle.summary.specs.Control.{Control, TurnEnd, Moves, Switches, entry, InTable, Inside, Summed}
 use Rattle.summary.specs.Edges.{bestOf}
-use Rattle.summary.specs.Stretch.{End, pop, stay, endOf, Path, Stretch}
-use Rattle.summary.specs.Table.{capped, Exact}
+use Rattle.summary.specs.Stretch.{End, pop, stay, Path, Stretch}
+use Rattle.summary.specs.Table.{capped, Least, Exact}
+use Rattle.summary.proofs.Best.{exact-closed}
 use Rattle.summary.proofs.Floors.{floored, unfloored}
 use Rattle.summary.proofs.Overs.{Over, within, gone, overs, pops, stays}
+use Rattle.summary.proofs.Ranging.{Sym, ranged}
 use Rattle.summary.proofs.Relaxing.{better}
-use Rattle.reach.specs.Cost.{control, through, overStates, overTurns, pairCost, Least}
+use Rattle.summary.proofs.Tables.{Bounded, bounded}
+use Rattle.reach.specs.Cost.{control, through, overStates, overTurns, pairCost}
 use Rattle.reach.specs.Ends.{turnOf}
 
 -- A count that is reached and at most m is so after a candidate more, and after one that is.
@@ -31,19 +34,6 @@ lower x y old m h = let b = better 0 x y old in (omega (arith, b .low), omega (a
 hits : (x y old l m : ℕ) → (x ≤ 4096) × (x + l ≤ m) → (y ≤ 4096) × (y + 0 ≤ l)
     → (bestOf 0 x y old ≤ 4096) × (bestOf 0 x y old ≤ m)
 hits x y old l m h k = let b = better 0 x y old .most (h .0) (k .0) in (b .0, omega (arith, b .1))
-
-module _ {C S : Type 0} {Move : C → ℕ → S → Right → C → Type 0} {Switch : C → C → Type 0} where
-  -- A stretch ends in a set of controls that moves and switches do not leave.
-  kept : {Ctl : C → Type 0}
-      → ((c d : C) (γ : ℕ) (s : S) (x : Right) → Ctl c → Move c γ s x d → Ctl d)
-      → ((c d : C) → Ctl c → Switch c d → Ctl d)
-      → {c : C} {γ : ℕ} {e : End C} {ss rest : List S} → Ctl c → Stretch Move Switch c γ e ss rest → Ctl (endOf e)
-  kept M W p Stretch.here = p
-  kept M W p (Stretch.remove m) = M _ _ _ _ _ p m
-  kept M W p (Stretch.swap m r) = kept M W (M _ _ _ _ _ p m) r
-  kept M W p (Stretch.both m r q) = kept M W (kept M W (M _ _ _ _ _ p m) r) q
-  kept M W p (Stretch.above m r) = kept M W (M _ _ _ _ _ p m) r
-  kept M W p (Stretch.change s r) = kept M W (W _ _ p s) r
 
 -- A count that some run with one symbol has, if it is reached.
 abbrev Made : {C S : Type 0} (Move : C → ℕ → S → Right → C → Type 0) (Switch : C → C → Type 0) → C → ℕ → C → ℕ → Type 0
@@ -127,18 +117,13 @@ module _ {t : Thread} {G n : ℕ} {ends : ℕ → TurnEnd} {tab : List ℕ} (fit
       let r = fits .rules (s .rule) (a .listed) in
       omega (arith, a .symbol, r .top)
 
-  -- Where a stretch from a control of the table ends, the table has a place.
-  placed : {c : Control} {γ : ℕ} {e : End Control} {ss rest : List Step}
-      → InTable G n c → Stretch (Moves t turnOf) (Switches ends n) c γ e ss rest → InTable G n (endOf e)
-  placed p r = kept {Ctl = InTable G n} moves switches p r
-    where
-      moves : (c d : Control) (γ : ℕ) (s : Step) (x : Right) → InTable G n c → Moves t turnOf c γ s x d → InTable G n d
-      moves c d γ s x p m =
-          let r = fits .rules (s .rule) (applies-iff t (s .rule) (c .shared) γ .0 (m .rule) .listed) in
-          (omega (arith, m .passed), rw (m .shared) (r .next))
-
-      switches : (c d : Control) → InTable G n c → Switches ends n c d → InTable G n d
-      switches c d p s = (omega (arith, s .more, s .passed), rw (s .enter) (inside (c .passed) (s .more) .1))
+  -- A stretch from a control of the table ends at one, and its entry is no more than its steps.
+  bound : {c : Control} {γ : ℕ} {e : End Control} {ss rest : List Step} → InTable G n c → γ ≤ 16
+      → Stretch (Moves t turnOf) (Switches ends n) c γ e ss rest
+      → Bounded (Moves t turnOf) (Switches ends n) (InTable G n) Sym (entry ends tab) c γ e ss rest
+  bound p q r =
+      let within = ranged turnOf fits inside in
+      bounded _ _ _ _ within (exact-closed _ _ (entry ends tab) within (sums .exact turnOf)) p q r
 
   -- The cost read off the table is the capped least number of steps.
   pub pair-cost : (c : Control) (γ : ℕ) (d : Control) → InTable G n c → γ ≤ 15 → InTable G n d
@@ -159,13 +144,13 @@ module _ {t : Thread} {G n : ℕ} {ends : ℕ → TurnEnd} {tab : List ℕ} (fit
       least : {ss : List Step} → Over (Moves t turnOf) (Switches ends n) c (γ ∷ 16 ∷ []) ss d
           → (pairCost ends tab G n c γ d ≤ 4096) × (pairCost ends tab G n c γ d ≤ length ss)
       least {ss} (within r) =
-          let e = sums .exact turnOf c γ (stay d) p (omega arith) q .least r in
-          turns-made ends tab c γ d G n (λ v. (v ≤ 4096) × (v ≤ length ss)) (lowers ss) (e .0, omega (arith, e .1)) (suc n)
+          let e = bound p (omega arith) r in
+          turns-made ends tab c γ d G n (λ v. (v ≤ 4096) × (v ≤ length ss)) (lowers ss) (e .reached, omega (arith, e .most)) (suc n)
           (le-refl (suc n))
       least {ss} (gone {q = u} {mid = mid} r (within f)) =
-          let i = placed p r in
-          let x = sums .exact turnOf c γ (pop u) p (omega arith) i .least r in
-          let y = sums .exact turnOf u 16 (stay d) i (omega arith) q .least f in
+          let x = bound p (omega arith) r in
+          let y = bound (x .place) (omega arith) f in
+          let i = x .place in
           turns-hit ends tab c γ d G n (λ v. (v ≤ 4096) × (v ≤ length ss)) (lowers ss) (u .passed) (u .shared) (i .0) (i .1)
-          (λ old. hits _ _ old (length mid) (length ss) x y) (suc n) (omega (arith, i .0)) (le-refl (suc n))
+          (λ old. hits _ _ old (length mid) (length ss) (x .reached, x .most) (y .reached, y .most)) (suc n) (omega (arith, i .0)) (le-refl (suc n))
       least (gone r (gone f o)) = absurd (never 16 idle f)

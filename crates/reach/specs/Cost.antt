@@ -2,9 +2,8 @@
 -- at the end, or it has gone at some control and the floor, which no rule takes, stands from there on.
 use mathlib.Core.Bool.{Bool, true, false}
 use mathlib.Core.List.{List, [], _∷_}
-use mathlib.Core.Path.{_≡_}
-use Prim.Native.Nat.{ℕ, zero, suc, _-_, _*_, _^_, _≤_, _<_}
-use lib.ListN.{length, getD}
+use Prim.Native.Nat.{ℕ, zero, suc, _-_, _*_, _^_, _<_}
+use lib.ListN.{getD}
 use Rattle.model.specs.declared.Thread.{Thread}
 use Rattle.model.specs.Lines.{digits}
 use Rattle.model.specs.declared.Model.{Model}
@@ -13,7 +12,7 @@ use Rattle.reach.specs.View.{View}
 use Rattle.summary.specs.Control.{Control, TurnEnd, Moves, Switches, entry}
 use Rattle.summary.specs.Edges.{bestOf}
 use Rattle.summary.specs.Stretch.{pop, stay, Path}
-use Rattle.summary.specs.Table.{capped}
+use Rattle.summary.specs.Table.{Least}
 use Rattle.reach.specs.Ends.{turnOf, endsOf, firstState, lastState}
 
 -- A control from its parts.
@@ -43,11 +42,6 @@ pairCost ends tab G n c γ d = overTurns ends tab c γ d G (suc n)
 abbrev pub lineCost : ThreadId → List ℕ → ℕ → ℕ → ℕ → ℕ → List ℕ → ℕ
 lineCost i tab G n g γ line =
     pairCost (endsOf i line) tab G n (control 0 (firstState i g line)) γ (control n (lastState i n line))
-
--- A cost is the capped least number of steps of some runs, given by their lists of steps; 4,097 where there is none.
-pub record Least {S : Type 0} (Run : List S → Type 0) (cost : ℕ) : Type 0 where
-  pub some : cost ≤ 4096 → (ss : List S) × Run ss × (capped (length ss) ≡ cost)
-  pub least : {ss : List S} → Run ss → (cost ≤ 4096) × (cost ≤ length ss)
 
 -- A cost is the capped least number of a thread's steps in its views of a line, from the start of a model.
 abbrev pub ViewCost : Model → ThreadId → List ℕ → ℕ → Type 0

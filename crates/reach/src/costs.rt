@@ -31,15 +31,7 @@ pub fn both(m: Model, a: &mut [u64], b: &mut [u64])
 }
 
 // The costs of all full lines of a thread with n turn ends.
-pub fn fill(
-    t: &mut [u64],
-    costs: &mut [u64],
-    g: usize,
-    n: usize,
-    other: bool,
-    start: usize,
-    th: Thread,
-)
+fn fill(t: &mut [u64], costs: &mut [u64], g: usize, n: usize, other: bool, start: usize, th: Thread)
     requires { ⌜
         (length (now t) ≡ size) × (length (now costs) ≡ 4096) × (1 ≤ g) × (g ≤ 4) × (n ≤ 2) × (start < g) × ThreadFits g th
         ⌝ }

@@ -61,9 +61,9 @@ fn document() -> Tally {
     let one = vectors::ONE;
     let once = vectors::TWO_ONCE;
     let mut t = Tally::new();
-    t = t.counted(agrees(&one, &[39]));
-    t = t.counted(agrees(&once, &[19, 6, 0]));
-    t = t.counted(agrees(&[11, 1, 3, 0], &[63]));
+    t = t.counted(agrees(&one, b"\x27"));
+    t = t.counted(agrees(&once, b"\x13\x06\x00"));
+    t = t.counted(agrees(b"\x0B\x01\x03\x00", b"\x3F"));
     t.counted(faulty())
 }
 

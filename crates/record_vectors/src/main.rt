@@ -80,16 +80,16 @@ fn document() -> Tally {
     t = t.counted(agrees(&one, 0));
     let two = vectors::TWO;
     t = t.counted(agrees(&two, 0));
-    t = t.counted(agrees(&[8, 0], 0));
+    t = t.counted(agrees(b"\x08\x00", 0));
     t = t.counted(agrees(&[], 1));
-    t = t.counted(agrees(&[75, 2], 1));
-    t = t.counted(agrees(&[0], 2));
-    t = t.counted(agrees(&[9, 5, 0], 3));
-    t = t.counted(agrees(&[72, 0, 1, 8, 0], 4));
-    t = t.counted(agrees(&[9, 4, 0], 5));
-    t = t.counted(agrees(&[8, 0, 0], 6));
-    t = t.counted(agrees(&[72, 0, 1, 8], 4));
-    t.counted(agrees(&[9, 4], 5))
+    t = t.counted(agrees(b"\x4B\x02", 1));
+    t = t.counted(agrees(b"\x00", 2));
+    t = t.counted(agrees(b"\x09\x05\x00", 3));
+    t = t.counted(agrees(b"\x48\x00\x01\x08\x00", 4));
+    t = t.counted(agrees(b"\x09\x04\x00", 5));
+    t = t.counted(agrees(b"\x08\x00\x00", 6));
+    t = t.counted(agrees(b"\x48\x00\x01\x08", 4));
+    t.counted(agrees(b"\x09\x04", 5))
 }
 
 // Records whose thread A has so many rules, each of two zero bytes: 64 are accepted, 65 refused by 4, and 0 by 5.

@@ -1,7 +1,7 @@
 -- At an entry that some stretch meets exactly, its first move is tight: the entries of its parts add up to the entry, since
 -- neither part can be shorter than its entry and the table is closed.
-use mathlib.Core.List.{List, [], _∷_, _++_, append-nil}
-use mathlib.Core.Path.{_≡_, refl, ap}
+use mathlib.Core.List.{List, [], _∷_, _++_, append-assoc}
+use mathlib.Core.Path.{_≡_}
 use Prim.Native.Nat.{ℕ, _+_}
 use native.Mathlib.Omega.{arith}
 use lib.ListN.{length, length-append}
@@ -60,30 +60,31 @@ module _ {C S : Type 0} (Move : C → ℕ → S → Right → C → Type 0) (Swi
       → Closed Move Switch Ctl Sym T
   exact-closed R E =
       record {
-        here = λ c γ p q. let l = E c γ (stay c) p q p .least {ss = []} {rest = []} Stretch.here in
-            record { reached = l .0; most = omega (arith, l .1) };
+        here = λ c γ p q. let l = E c γ (stay c) p q p .least {ss = []} (λ rest. Stretch.here) in
+            record { reached = l .0; most = l .1 };
         remove = λ {c} {c₁} {γ} {s} p q m.
-            let l = E c γ (pop c₁) p q (R .moves p m .0) .least {ss = s ∷ []} {rest = []} (Stretch.remove m) in
-            record { reached = l .0; most = omega (arith, l .1) };
+            let l = E c γ (pop c₁) p q (R .moves p m .0) .least {ss = s ∷ []} (λ rest. Stretch.remove m) in
+            record { reached = l .0; most = l .1 };
         swap = λ {c} {c₁} {γ} {s} {a} d p q o m h.
             let i = R .moves p m in
             let u = E c₁ (a .0) d (i .0) (i .1) o .some h in
-            let l = E c γ d p q o .least {rest = []} (Stretch.swap m (u .1 [])) in
-            record { reached = l .0; most = omega (arith, l .0, l .1, u .2, ap length (append-nil (u .0))) };
+            let l = E c γ d p q o .least {ss = s ∷ u .0} (λ rest. Stretch.swap m (u .1 rest)) in
+            record { reached = l .0; most = omega (arith, l .0, l .1, u .2) };
         both = λ {c} {c₁} {γ} {s} {a} {b} r d p q y o m h k.
             let i = R .moves p m in
             let u = E c₁ (a .0) (pop r) (i .0) (i .1 .0) y .some h in
             let v = E r (b .0) d y (i .1 .1) o .some k in
-            let l = E c γ d p q o .least {rest = []} (Stretch.both m (u .1 (v .0 ++ [])) (v .1 [])) in
-            let e : length (u .0 ++ (v .0 ++ [])) ≡ length (u .0) + length (v .0) = simp (length-append, append-nil) refl in
-            record { reached = l .0; most = omega (arith, l .0, l .1, u .2, v .2, e) };
+            let l =
+            E c γ d p q o .least {ss = s ∷ (u .0 ++ v .0)}
+            (λ rest. rw append-assoc (Stretch.both m (u .1 (v .0 ++ rest)) (v .1 rest))) in
+            record { reached = l .0; most = omega (arith, l .0, l .1, u .2, v .2, length-append (u .0) (v .0)) };
         above = λ {c} {c₁} {γ} {s} {a} {b} r p q y m h.
             let i = R .moves p m in
             let u = E c₁ (a .0) (stay r) (i .0) (i .1 .0) y .some h in
-            let l = E c γ (stay r) p q y .least {rest = []} (Stretch.above m (u .1 [])) in
-            record { reached = l .0; most = omega (arith, l .0, l .1, u .2, ap length (append-nil (u .0))) };
+            let l = E c γ (stay r) p q y .least {ss = s ∷ u .0} (λ rest. Stretch.above m (u .1 rest)) in
+            record { reached = l .0; most = omega (arith, l .0, l .1, u .2) };
         change = λ {c} {c₁} γ d p q o s h.
             let u = E c₁ γ d (R .switches p s) q o .some h in
-            let l = E c γ d p q o .least {rest = []} (Stretch.change s (u .1 [])) in
-            record { reached = l .0; most = omega (arith, l .0, l .1, u .2, ap length (append-nil (u .0))) };
+            let l = E c γ d p q o .least {ss = u .0} (λ rest. Stretch.change s (u .1 rest)) in
+            record { reached = l .0; most = omega (arith, l .0, l .1, u .2) };
       }

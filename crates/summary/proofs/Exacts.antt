@@ -14,7 +14,7 @@ use Rattle.model.specs.Fits.{ThreadFits}
 use Rattle.summary.specs.Cells.{first, second, size, blank, Plain, First, Second, Solved}
 use Rattle.summary.specs.Control.{Control, TurnEnd, Moves, Switches, dest, placeOf, entry, InTable, Inside, Summed}
 use Rattle.summary.specs.Edges.{cell, From}
-use Rattle.summary.specs.Stretch.{End, endOf, Stretch}
+use Rattle.summary.specs.Stretch.{End, endOf}
 use Rattle.summary.specs.Table.{Uses}
 use Rattle.summary.proofs.Complete.{Ready, closed}
 use Rattle.summary.proofs.Joins.{dest-low}
@@ -46,13 +46,14 @@ module _ {t : Thread} {G n : ℕ} {ends : ℕ → TurnEnd} {tab : List ℕ} (fit
     (R : Ready t G n ends tab) (from : (k : ℕ) → k < bound n → From (Second t G (ends 0 .leave) (ends 0 .enter)) blank k (cell tab k)) where
   -- A table whose edges hold and whose counts follow by them is exact.
   pub summed : Summed t G n ends tab
-  summed = record { exact = λ turnOf c γ d p q o. record { some = some turnOf c γ d p q o; least = least turnOf c γ d p q } }
+  summed = record { exact = λ turnOf c γ d p q o. record { some = some turnOf c γ d p q o; least = λ {ss} s. least turnOf c γ d p q ss s } }
     where
       least : (turnOf : ℕ → ℕ) (c : Control) (γ : ℕ) (d : End Control) → InTable G n c → γ ≤ 16
-          → {ss rest : List Step} → Stretch (Moves t turnOf) (Switches ends n) c γ d ss rest
-          → (entry ends tab c γ d ≤ 4096) × (entry ends tab c γ d + length rest ≤ length ss)
-      least turnOf c γ d p q s =
-          let b = bounded _ _ _ _ (ranged turnOf fits inside) (closed turnOf fits four two inside R) p q s in (b .reached, b .most)
+          → (us : List Step) → Uses (Moves t turnOf) (Switches ends n) c γ d us
+          → (entry ends tab c γ d ≤ 4096) × (entry ends tab c γ d ≤ length us)
+      least turnOf c γ d p q us s =
+          let b = bounded _ _ _ _ (ranged turnOf fits inside) (closed turnOf fits four two inside R) p q (s []) in
+          (b .reached, omega (arith, b .most, ap length (append-nil us)))
 
       some : (turnOf : ℕ → ℕ) (c : Control) (γ : ℕ) (d : End Control) → InTable G n c → γ ≤ 16
           → InTable G n (endOf d) → entry ends tab c γ d ≤ 4096
@@ -66,8 +67,8 @@ module _ {t : Thread} {G n : ℕ} {ends : ℕ → TurnEnd} {tab : List ℕ} (fit
                 let low = place-low ends G n k c γ (dest d) four two inside (omega arith) (p .1) q (dest-low d four o) in
                 let u = sound t G turnOf ends n fits four two (λ j i. let z = inside j i in (omega arith, omega arith)) (from place low)
                 c γ d l (o .0) (p .1) q (o .1) refl (rw same at h) in
-                let b = least turnOf c γ d p q (u .1 []) in
-                (u .0, u .1, omega (arith, same, u .2, b .1, ap length (append-nil (u .0))))
+                let b = least turnOf c γ d p q (u .0) (u .1) in
+                (u .0, u .1, omega (arith, same, u .2, b .1))
             | no l ↦ absurd (omega (arith, rw (lt-leb (c .passed) (endOf d .passed) (omega arith)) at h))
           ]
 

@@ -77,67 +77,14 @@ fn whole(t: &mut [u64], n: usize, th: Thread) -> u64
     std::num::wrapping_add_u64(sum, slices(t, n, th))
 }
 
-// The doubling thread, with one state.
+// The doubling thread, with one state: symbol 0 is removed, and symbols 1 to 12 each become two of the one below them.
 fn doubling(t: &mut [u64]) -> Tally
     requires { ⌜ length (now t) ≡ size ⌝ }
 {
     let reading = record::read(
-        &[
-            73,
-            1,
-            0,
-            13,
-            0,
-            0,
-            6,
-            1,
-            0,
-            0,
-            6,
-            2,
-            1,
-            1,
-            6,
-            3,
-            2,
-            2,
-            6,
-            4,
-            3,
-            3,
-            6,
-            5,
-            4,
-            4,
-            6,
-            6,
-            5,
-            5,
-            6,
-            7,
-            6,
-            6,
-            6,
-            8,
-            7,
-            7,
-            6,
-            9,
-            8,
-            8,
-            6,
-            10,
-            9,
-            9,
-            6,
-            11,
-            10,
-            10,
-            6,
-            12,
-            11,
-            11,
-        ],
+        b"\x49\x01\x00\x0D\x00\x00\
+          \x06\x01\x00\x00\x06\x02\x01\x01\x06\x03\x02\x02\x06\x04\x03\x03\x06\x05\x04\x04\x06\x06\x05\x05\
+          \x06\x07\x06\x06\x06\x08\x07\x07\x06\x09\x08\x08\x06\x0A\x09\x09\x06\x0B\x0A\x0A\x06\x0C\x0B\x0B",
     );
     let answer = reading.answer;
     let m = reading.model;

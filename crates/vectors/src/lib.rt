@@ -4,11 +4,13 @@ ghost use lib.ListN.{length};
 use libc::STDOUT_FILENO;
 
 // The records of document 01's models: One, Two, and Two at K=1.
-pub const ONE: [u8; 8] = [75, 2, 1, 1, 1, 1, 0, 1];
+pub const ONE: [u8; 8] = *b"\x4B\x02\x01\x01\x01\x01\x00\x01";
 
-pub const TWO: [u8; 18] = [200, 3, 3, 6, 0, 0, 0, 1, 0, 1, 1, 32, 3, 1, 3, 16, 2, 0];
+pub const TWO: [u8; 18] =
+    *b"\xC8\x03\x03\x06\x00\x00\x00\x01\x00\x01\x01\x20\x03\x01\x03\x10\x02\x00";
 
-pub const TWO_ONCE: [u8; 19] = [202, 1, 3, 3, 6, 0, 0, 0, 1, 0, 1, 1, 32, 3, 1, 3, 16, 2, 0];
+pub const TWO_ONCE: [u8; 19] =
+    *b"\xCA\x01\x03\x03\x06\x00\x00\x00\x01\x00\x01\x01\x20\x03\x01\x03\x10\x02\x00";
 
 // How many answers were compared, and how many of them differ from what is stored.
 pub struct Tally {

@@ -12,7 +12,7 @@ use Rattle.model.specs.Fits.{ThreadFits}
 use Rattle.model.specs.Lines.{States, digits}
 use Rattle.model.specs.Schedules.{Stored}
 use Rattle.model.specs.Walk.{ThreadId, Step}
-use Rattle.reach.specs.Cost.{control, through, pairCost, Least, RunAlong, LeastAlong}
+use Rattle.reach.specs.Cost.{control, through, pairCost, RunAlong, LeastAlong}
 use Rattle.reach.specs.Ends.{turnOf, endsOf, firstState, lastState}
 use Rattle.reach.proofs.Along.{ends-inside}
 use Rattle.reach.proofs.Values.{full-count}
@@ -20,6 +20,7 @@ use Rattle.reach.proofs.Pairs.{turns-made, idle, pair-cost}
 use Rattle.summary.specs.Control.{Control, TurnEnd, Moves, Switches, entry, Inside}
 use Rattle.summary.specs.Edges.{bestOf}
 use Rattle.summary.specs.Stretch.{pop, stay, Path}
+use Rattle.summary.specs.Table.{Least}
 use Rattle.summary.proofs.Floors.{unfloored}
 use Rattle.summary.proofs.Overs.{pops, stays}
 use Rattle.summary.proofs.Relaxing.{better}

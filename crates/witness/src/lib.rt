@@ -8,14 +8,14 @@ ghost use Rattle.model.specs.Schedules.{Stored};
 ghost use Rattle.model.specs.Walk.{startStacks};
 ghost use Rattle.witness.specs.Chosen.{Chosen};
 
-pub mod goal;
-pub mod merge;
-pub mod onward;
-pub mod plan;
-pub mod solve;
-pub mod steps;
-pub mod stretch;
-pub mod tight;
+mod goal;
+mod merge;
+mod onward;
+mod plan;
+mod solve;
+mod steps;
+mod stretch;
+mod tight;
 
 use model::Model;
 
