@@ -8,14 +8,14 @@ use lib.Dec.{eqb, leb}
 use lib.ListN.{length}
 use Rattle.model.specs.declared.Model.{Model}
 use Rattle.model.specs.Valid.{Valid, faultOf}
-use Rattle.record.proofs.Lengths.{at-most}
+use Rattle.writer.proofs.Lengths.{at-most}
 use Rattle.record.specs.declared.Answer.the-variants.{Accepted, Refused}
 use Rattle.record.specs.declared.Reading.{Reading}
 use Rattle.record.specs.declared.Written.{Written}
 use Rattle.record.specs.declared.Written.the-variants as written
 use Rattle.record.specs.Held.{readingOf}
 use Rattle.record.specs.Reader.{Read, refused, value}
-use Rattle.record.specs.Writer.{recordOf}
+use Rattle.writer.specs.Writer.{recordOf}
 use Rattle.record.specs.Written.{writtenOf}
 use Rattle.judge.specs.declared.Judgement.{Judgement}
 use Rattle.judge.specs.Answer.{refusalOf, Answers, LeavesLines, LeavesSchedule}

@@ -16,10 +16,10 @@ use Rattle.model.proofs.Positions.{length-digits, digits-value}
 use Rattle.model.proofs.Ranges.{valid-fits}
 use Rattle.model.proofs.Turns.{legal-full}
 use Rattle.summary.specs.Table.{capped, Least}
-use Rattle.reach.specs.Cost.{BothCosts}
+use Rattle.costs.specs.Cost.{BothCosts}
 use Rattle.reach.proofs.Full.{last-digits}
 use Rattle.reach.proofs.Marks.{line-cost, full-cost}
-use Rattle.reach.proofs.Views.{views, joined}
+use Rattle.costs.proofs.Views.{views, joined}
 use Rattle.judge.specs.declared.Choice.{Choice}
 use Rattle.judge.specs.Best.{Best}
 

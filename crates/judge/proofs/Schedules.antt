@@ -18,9 +18,9 @@ use Rattle.model.specs.Walk.{A, B, startStacks}
 use Rattle.model.proofs.Ranges.{valid-fits}
 use Rattle.model.proofs.Stores.{stored-front}
 use Rattle.reach.specs.Answer.{lineRefusal}
-use Rattle.reach.specs.Cost.{BothCosts}
+use Rattle.costs.specs.Cost.{BothCosts}
 use Rattle.reach.proofs.Answers.{nothing, untroubled, good}
-use Rattle.reach.proofs.Digits.{power-small}
+use Rattle.costs.proofs.Digits.{power-small}
 use Rattle.reach.proofs.Marks.{line-cost}
 use Rattle.replay.specs.declared.Replayed.the-variants.{Accepted}
 use Rattle.replay.specs.Replay.{replayOf}

@@ -3,8 +3,8 @@ ghost use Prim.Native.Nat.{_+_, _*_, _^_, _≤_, _<_};
 ghost use lib.ListN.{length};
 ghost use Rattle.judge.specs.Best.{Best};
 use crate::Choice;
-use reach::line::joined;
-use reach::parts::power;
+use costs::line::joined;
+use costs::parts::power;
 
 // The best of all full lines that end in the target; `a` and `b` hold each line's least steps of the two threads.
 pub fn choose(g: usize, k: usize, target: usize, a: &[u64], b: &[u64]) -> Choice

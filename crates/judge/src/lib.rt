@@ -4,7 +4,7 @@ ghost use lib.ListN.{length};
 ghost use Rattle.model.specs.Fits.{Fits};
 ghost use Rattle.reach.specs.Answer.{LineTable};
 ghost use Rattle.reach.specs.Bits.{bytesFor};
-ghost use Rattle.reach.specs.Cost.{BothCosts};
+ghost use Rattle.costs.specs.Cost.{BothCosts};
 ghost use Rattle.judge.specs.Answer.{refusalOf, Answers, LeavesLines, LeavesSchedule};
 ghost use Rattle.judge.specs.Best.{Best};
 
@@ -53,7 +53,7 @@ fn verdict(m: Model, lines: &mut [u8], schedule: &mut [u8]) -> Judgement
 {
     let mut a = [0u64; 4096];
     let mut b = [0u64; 4096];
-    reach::costs::both(m, &mut a, &mut b);
+    costs::both(m, &mut a, &mut b);
     let best = search(m, lines, &a, &b);
     told(m, best, &a, &b, schedule)
 }

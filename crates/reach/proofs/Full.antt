@@ -12,7 +12,7 @@ use lib.ListN.{length, replicate, length-append, replicate-append-replicate}
 use Rattle.model.specs.Lines.{Line, powers, bits, lastOf, value, position, digits, lineAt}
 use Rattle.model.proofs.Positions.{length-digits, digits-states, value-digits, line-at-position}
 use Rattle.reach.specs.Bits.{padded}
-use Rattle.reach.proofs.Digits.{power-small}
+use Rattle.costs.proofs.Digits.{power-small}
 
 -- A further factor fits.
 pub product-small : {v g : ℕ} → v ≤ 4096 → g ≤ 4 → v * g ≤ 16384

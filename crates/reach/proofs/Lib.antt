@@ -1,14 +1,6 @@
-pub mod Along
 pub mod Answers
-pub mod Digits
-pub mod Entries
-pub mod Filled
-pub mod Front
 pub mod Full
 pub mod Marked
 pub mod Marks
 pub mod Pack
-pub mod Pairs
-pub mod Values
-pub mod Views
 pub mod Written

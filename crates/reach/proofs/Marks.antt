@@ -14,9 +14,9 @@ use Rattle.model.proofs.Positions.{value-below, length-digits, digits-value, li
 use Rattle.model.proofs.Turns.{marked-padded}
 use Rattle.reach.specs.Answer.{LineTable}
 use Rattle.reach.specs.Bits.{padded, fullAt, Drawn}
-use Rattle.reach.specs.Cost.{LeastAlong, ViewCost, Costs, BothCosts}
-use Rattle.reach.proofs.Along.{line-view}
-use Rattle.reach.proofs.Views.{marked-views}
+use Rattle.costs.specs.Cost.{LeastAlong, ViewCost, Costs, BothCosts}
+use Rattle.costs.proofs.Along.{line-view}
+use Rattle.costs.proofs.Views.{marked-views}
 
 -- The least steps of the runs of a thread along a full line are those of its views of the line.
 pub view-cost : (m : Model) (i : ThreadId) (n : ℕ) (line : List ℕ) {cost : ℕ} → length line ≡ 2 * suc n

@@ -10,7 +10,7 @@ use lib.Seq.{drop-set-lt}
 use Rattle.model.specs.Lines.{bits, tableBits}
 use Rattle.reach.specs.Bits.{bitAt, bytesFor, fullAt, Drawn}
 use Rattle.reach.specs.Marks.{marked, Holds}
-use Rattle.reach.proofs.Front.{Front, front-start, front-next}
+use Rattle.costs.proofs.Front.{Front, front-start, front-next}
 use Rattle.reach.proofs.Marked.{spare-place, marked-follows}
 
 -- Of a table of `bytes` bytes, those below `at` are written.

@@ -1,4 +1,4 @@
-// The costs of full lines for both threads, and the table of marked lines.
+// The table of marked lines, drawn from both threads' costs of all full lines.
 ghost use mathlib.Core.Path.{_≡_};
 ghost use Prim.Native.Nat.{_≤_};
 ghost use lib.ListN.{length};
@@ -6,10 +6,7 @@ ghost use Rattle.model.specs.Fits.{Fits};
 ghost use Rattle.reach.specs.Answer.{lineRefusal, outcomeOf, LineTable, Leaves};
 ghost use Rattle.reach.specs.Bits.{bytesFor};
 
-pub mod costs;
 pub mod draw;
-pub mod line;
-pub mod parts;
 
 use model::Model;
 

@@ -14,8 +14,8 @@ use Rattle.model.specs.declared.Thread.{Thread}
 use Rattle.model.specs.Valid.{Valid, faultOf}
 use Rattle.record.specs.declared.Written.{Written}
 use Rattle.record.specs.declared.Written.the-variants.{Length, Refused}
-use Rattle.record.specs.Put.{Put, Small}
-use Rattle.record.specs.Writer.{recordOf}
+use Rattle.writer.specs.Put.{Put, Small}
+use Rattle.writer.specs.Writer.{recordOf}
 use Rattle.record.specs.Written.{writtenOf, storeOf, holding}
 
 -- A thread in range, of at most four states, is small.

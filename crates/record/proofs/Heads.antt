@@ -10,7 +10,7 @@ use Rattle.model.specs.Bits.{bit}
 use Rattle.model.specs.Fits.{Fits}
 use Rattle.model.proofs.Tests.{passed}
 use Rattle.record.specs.Reader.{value, byte, ranged, field, Head, head}
-use Rattle.record.specs.Writer.{fieldOf, weight, mapOf}
+use Rattle.writer.specs.Writer.{fieldOf, weight, mapOf}
 use Rattle.record.proofs.OneField.{checked, parted, carried, byte-forth}
 use Rattle.record.proofs.OneField.{ranged-back, ranged-forth, field-back, FieldRead, field-forth}
 use Rattle.record.proofs.Maps.{HeadBits, head-bits}

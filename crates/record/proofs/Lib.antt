@@ -1,12 +1,10 @@
 pub mod Answers
 pub mod Fronts
 pub mod Heads
-pub mod Lengths
 pub mod Lists
 pub mod Maps
 pub mod OneField
 pub mod Parts
-pub mod Puts
 pub mod Records
 pub mod RuleLists
 pub mod ThreadRules

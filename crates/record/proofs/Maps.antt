@@ -12,7 +12,7 @@ use Rattle.model.specs.declared.Right.the-variants.{Remove, Swap, Push}
 use Rattle.model.specs.Bits.{bit}
 use Rattle.model.proofs.Tests.{both, order, equal}
 use Rattle.record.specs.Reader.{ruleMap}
-use Rattle.record.specs.Writer.{symbolBits}
+use Rattle.writer.specs.Writer.{symbolBits}
 
 -- A test that passes at both truth values.
 always : (Bool → Bool) → Bool

@@ -10,7 +10,7 @@ use lib.Dec.{T, leb, ltb, eqb}
 use borrow.Author.Tests.{le-leb, lt-ltb, eq-eqb, ne-eqb}
 use Rattle.model.proofs.Tests.{both, order}
 use Rattle.record.specs.Reader.{Read, refused, value, andThen, need, inRange, byte, ranged, field}
-use Rattle.record.specs.Writer.{fieldOf}
+use Rattle.writer.specs.Writer.{fieldOf}
 
 -- A refusal is no value.
 pub apart : {A X : Type 0} {n : ℕ} {a : A} {rest : List ℕ} → refused n ≡ value a rest → X

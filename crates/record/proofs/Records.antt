@@ -18,7 +18,7 @@ use Rattle.record.specs.declared.Reading.{Reading}
 use Rattle.record.specs.Kept.{Unused, Kept, Keeps}
 use Rattle.record.specs.Held.{readingOf}
 use Rattle.record.specs.Reader.{Read, refused, value, rules, Head, head, threadOf, modelOf, front, ended, readOf}
-use Rattle.record.specs.Writer.{weight, rulesOf, mapOf, headBytes, recordOf}
+use Rattle.writer.specs.Writer.{weight, rulesOf, mapOf, headBytes, recordOf}
 use Rattle.record.proofs.OneField.{apart, parted, carried, value-same}
 use Rattle.record.proofs.Maps.{HeadBits, head-sum}
 use Rattle.record.proofs.ThreadRules.{rules-back, RulesRead, rules-forth, thread-fits, rules-bytes}

@@ -16,7 +16,7 @@ use Rattle.model.specs.Bits.{bit}
 use Rattle.model.specs.Fits.{RightFits, RuleFits}
 use Rattle.model.proofs.Tests.{order}
 use Rattle.record.specs.Reader.{value, byte, field, ruleMap, symbol, right, rule, ruleList}
-use Rattle.record.specs.Writer.{fieldOf, weight, symbolsOf, symbolBits, ruleOf, ruleListOf}
+use Rattle.writer.specs.Writer.{fieldOf, weight, symbolsOf, symbolBits, ruleOf, ruleListOf}
 use Rattle.record.proofs.OneField.{checked, parted, carried, byte-forth}
 use Rattle.record.proofs.OneField.{ranged-back, ranged-forth, field-back, FieldRead, field-forth}
 use Rattle.record.proofs.Maps.{newBits, rule-sum, hasFirst, hasSecond, rule-bits}

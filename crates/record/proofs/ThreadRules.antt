@@ -12,7 +12,7 @@ use Rattle.model.specs.declared.Thread.{Thread}
 use Rattle.model.specs.Rules.{zeroRule}
 use Rattle.model.specs.Fits.{RuleFits, ThreadFits}
 use Rattle.record.specs.Reader.{value, field, ruleList, rules, threadOf}
-use Rattle.record.specs.Writer.{fieldOf, ruleListOf, rulesOf}
+use Rattle.writer.specs.Writer.{fieldOf, ruleListOf, rulesOf}
 use Rattle.record.proofs.OneField.{parted, field-back, field-forth}
 use Rattle.record.proofs.RuleLists.{RulesFit, list-back, list-forth}
 

@@ -10,7 +10,7 @@ use Rattle.model.specs.Valid.{Valid}
 use Rattle.record.specs.declared.Answer.{Answer}
 use Rattle.record.specs.declared.Answer.the-variants.{Accepted, Refused}
 use Rattle.record.specs.declared.Reading.{Reading}
-use Rattle.record.specs.Writer.{recordOf}
+use Rattle.writer.specs.Writer.{recordOf}
 
 -- The unused rule places of a thread are zero.
 abbrev pub Unused : Thread → Type 0

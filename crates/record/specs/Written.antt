@@ -8,7 +8,7 @@ use Rattle.model.specs.declared.Model.{Model}
 use Rattle.model.specs.Valid.{faultOf}
 use Rattle.record.specs.declared.Written.{Written}
 use Rattle.record.specs.declared.Written.the-variants.{Length, Refused}
-use Rattle.record.specs.Writer.{recordOf}
+use Rattle.writer.specs.Writer.{recordOf}
 
 -- The answer, by the length of the store: the model's fault, 7 for a store shorter than the record, else the record's length.
 unfoldable pub writtenOf : Model → ℕ → Written

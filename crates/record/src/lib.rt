@@ -12,7 +12,6 @@ ghost use Rattle.record.specs.Written.{writtenOf, storeOf};
 mod field;
 pub mod reader;
 mod rules;
-mod writer;
 
 // What a whole record says, or the refusal's number.
 pub enum Answer {

@@ -13,8 +13,8 @@ use lib.Seq.{length-sets}
 use Rattle.model.specs.Bits.{oneIf}
 use Rattle.model.specs.Lines.{powers}
 use Rattle.reach.specs.Bits.{bitAt}
-use Rattle.record.specs.Put.{Put}
-use Rattle.record.proofs.Puts.{nothing, _then_}
+use Rattle.writer.specs.Put.{Put}
+use Rattle.writer.proofs.Puts.{nothing, _then_}
 use Rattle.report.specs.Table.{standing, Fills}
 use Rattle.report.specs.Text.{countOf, countLine, countLines}
 use Rattle.report.proofs.Sizes.{powers-low, count-short}

@@ -5,8 +5,8 @@ use Prim.Native.Nat.{ℕ, _+_, _*_, _/_, _%_, _≤_, _<_}
 use native.Mathlib.Omega.{arith}
 use lib.ListN.{length, drop, length-append, length-drop}
 use lib.Seq.{length-sets}
-use Rattle.record.specs.Put.{Put}
-use Rattle.record.proofs.Puts.{nothing, _then_}
+use Rattle.writer.specs.Put.{Put}
+use Rattle.writer.proofs.Puts.{nothing, _then_}
 use Rattle.model.specs.Schedules.{stepsOf, stepAt, stepsFrom}
 use Rattle.model.proofs.Stores.{first-step, short}
 use Rattle.replay.proofs.Steps.{even-turn, odd-turn}

@@ -6,8 +6,8 @@ use native.Mathlib.Numerals.{add-one}
 use native.Mathlib.Omega.{arith}
 use lib.ListN.{length, take, set, getD}
 use lib.Seq.{take-suc, take-all, sets-eq, length-sets}
-use Rattle.record.specs.Put.{Put}
-use Rattle.record.proofs.Puts.{_then_}
+use Rattle.writer.specs.Put.{Put}
+use Rattle.writer.proofs.Puts.{_then_}
 use Rattle.report.specs.Prints.{Holds}
 
 -- Nothing stands yet ..

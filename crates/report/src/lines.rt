@@ -6,11 +6,11 @@ ghost use lib.ListN.{length};
 ghost use Rattle.model.specs.Bits.{bit as bitOf, oneIf};
 ghost use Rattle.model.specs.Schedules.{stepsOf};
 ghost use Rattle.reach.specs.Bits.{bitAt};
-ghost use Rattle.record.specs.Put.{Put};
+ghost use Rattle.writer.specs.Put.{Put};
 ghost use Rattle.report.specs.Table.{Fills, standing};
 ghost use Rattle.report.specs.Text.{line, foundWord, clearLine, stepLine, stepLines, countOf, countLine, countLines};
 use crate::text;
-use reach::parts;
+use costs::parts;
 
 // Puts `found`, the number of steps, and a line for each step of a schedule.
 pub fn put_found(store: &mut [u8], n: u64, schedule: &[u8]) -> usize

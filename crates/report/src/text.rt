@@ -1,7 +1,7 @@
 // Words and numbers put into a store, one after another.
 ghost use Prim.Native.Nat.{_+_, _≤_};
 ghost use lib.ListN.{length};
-ghost use Rattle.record.specs.Put.{Put};
+ghost use Rattle.writer.specs.Put.{Put};
 ghost use Rattle.report.specs.Text.{decimal, line};
 
 // Puts a word at a place of a store, and answers the place after it.

@@ -10,10 +10,10 @@ use lib.ListN.{length}
 use Rattle.model.specs.declared.Right.{Right}
 use Rattle.model.specs.Walk.{Step}
 use Rattle.model.proofs.Inside.{applies-iff}
-use Rattle.reach.specs.Cost.{control}
-use Rattle.reach.specs.Ends.{turnOf}
-use Rattle.reach.specs.Lanes.{placeAt, LaneTo}
-use Rattle.reach.proofs.Entries.{place-at}
+use Rattle.costs.specs.Cost.{control}
+use Rattle.costs.specs.Ends.{turnOf}
+use Rattle.costs.specs.Lanes.{placeAt, LaneTo}
+use Rattle.costs.proofs.Entries.{place-at}
 use Rattle.summary.specs.Control.{Control, Moves, Switches, dest, entry, InTable}
 use Rattle.summary.specs.Edges.{cell}
 use Rattle.summary.specs.Stretch.{End, pop, stay, endOf}

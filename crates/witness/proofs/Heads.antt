@@ -14,7 +14,7 @@ use Rattle.model.specs.Lines.{States}
 use Rattle.model.specs.Rules.{ruleAt}
 use Rattle.model.specs.Walk.{ThreadId, A, B}
 use Rattle.summary.specs.Control.{TurnEnd}
-use Rattle.reach.specs.Ends.{turnOf, endsOf}
+use Rattle.costs.specs.Ends.{turnOf, endsOf}
 use Rattle.witness.specs.Plan.{planSize, endsIn, ruleIn, headBytes, InRange, Planned}
 use Rattle.witness.proofs.Stored.{stored-at}
 

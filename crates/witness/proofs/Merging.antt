@@ -12,8 +12,8 @@ use lib.ListN.{length}
 use Rattle.model.specs.declared.Model.{Model}
 use Rattle.model.specs.Runs.{Turns, stop, end, move}
 use Rattle.model.specs.Walk.{ThreadId, A, B, ownerOf, Stacks, Step}
-use Rattle.reach.specs.View.{View, stop, skip, end, move}
-use Rattle.reach.proofs.Views.{Merged, none, left, right, merged-views}
+use Rattle.costs.specs.View.{View, stop, skip, end, move}
+use Rattle.costs.proofs.Views.{Merged, none, left, right, merged-views}
 use Rattle.witness.specs.Merge.{merge}
 
 -- The turns of steps ascend from turn t on.

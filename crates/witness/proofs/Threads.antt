@@ -12,11 +12,11 @@ use Rattle.model.specs.Fits.{ThreadFits}
 use Rattle.model.specs.Lines.{States, digits}
 use Rattle.model.specs.Schedules.{Stored}
 use Rattle.model.specs.Walk.{ThreadId, Step}
-use Rattle.reach.specs.Cost.{control, through, pairCost, RunAlong, LeastAlong}
-use Rattle.reach.specs.Ends.{turnOf, endsOf, firstState, lastState}
-use Rattle.reach.proofs.Along.{ends-inside}
-use Rattle.reach.proofs.Values.{full-count}
-use Rattle.reach.proofs.Pairs.{turns-made, idle, pair-cost}
+use Rattle.costs.specs.Cost.{control, through, pairCost, RunAlong, LeastAlong}
+use Rattle.costs.specs.Ends.{turnOf, endsOf, firstState, lastState}
+use Rattle.costs.proofs.Along.{ends-inside}
+use Rattle.costs.proofs.Values.{full-count}
+use Rattle.costs.proofs.Pairs.{turns-made, idle, pair-cost}
 use Rattle.summary.specs.Control.{Control, TurnEnd, Moves, Switches, entry, Inside}
 use Rattle.summary.specs.Edges.{bestOf}
 use Rattle.summary.specs.Stretch.{pop, stay, Path}

@@ -13,8 +13,8 @@ use Rattle.model.specs.Schedules.{bytesOf, stepsOf, Stored}
 use Rattle.model.specs.Walk.{ThreadId, A, B, threadOf, startStacks}
 use Rattle.model.proofs.Positions.{length-digits}
 use Rattle.model.proofs.Stores.{stored-steps}
-use Rattle.reach.specs.Cost.{RunAlong, LeastAlong, ViewCost}
-use Rattle.reach.proofs.Along.{line-view}
+use Rattle.costs.specs.Cost.{RunAlong, LeastAlong, ViewCost}
+use Rattle.costs.proofs.Along.{line-view}
 use Rattle.witness.specs.Chosen.{Chosen}
 use Rattle.witness.specs.Merge.{merge}
 use Rattle.witness.proofs.Merging.{merged-turns, merge-length}

@@ -13,8 +13,8 @@ use Rattle.model.specs.Schedules.{bytesOf, Stored}
 use Rattle.model.specs.Walk.{ThreadId, A, B, Step}
 use Rattle.model.proofs.Inside.{applies-iff}
 use Rattle.model.proofs.Stores.{sets-append, length-bytes, bytes-append}
-use Rattle.reach.specs.Cost.{control}
-use Rattle.reach.specs.Ends.{turnOf}
+use Rattle.costs.specs.Cost.{control}
+use Rattle.costs.specs.Ends.{turnOf}
 use Rattle.summary.specs.Control.{Control, Moves, Switches, dest}
 use Rattle.summary.specs.Stretch.{End, pop, stay, Stretch}
 use Rattle.witness.specs.declared.goal.Goal.{Goal}

@@ -10,7 +10,7 @@ use Rattle.model.specs.declared.Right.the-variants.{Remove, Swap, Push}
 use Rattle.model.specs.declared.Rule.{Rule}
 use Rattle.model.specs.declared.Symbol.{Symbol}
 use Rattle.model.specs.Walk.{ThreadId, Step}
-use Rattle.reach.specs.Ends.{turnOf, firstState, lastState}
+use Rattle.costs.specs.Ends.{turnOf, firstState, lastState}
 use Rattle.summary.specs.Cells.{size}
 use Rattle.summary.specs.Control.{Control, Moves, Switches, dest, placeOf, InTable}
 use Rattle.summary.specs.Edges.{cell}

@@ -1,12 +1,12 @@
 // A plan: what the writers need of a thread and of its line, as bytes. They may nest a thousand levels deep and more, and a thread
 // by value at each level would not fit the stack.
+use costs::parts::state_at;
+use costs::parts::turn_of;
 use model::Right;
 use model::Rule;
 use model::Shared;
 use model::Symbol;
 use model::Thread;
-use reach::parts::state_at;
-use reach::parts::turn_of;
 ghost use mathlib.Core.List.{[], _∷_};
 ghost use mathlib.Core.Path.{_≡_};
 ghost use Prim.Native.Nat.{ℕ, suc, _+_, _*_, _^_, _≤_, _<_};
@@ -15,8 +15,8 @@ ghost use lib.Seq.{sets};
 ghost use Rattle.model.specs.Fits.{ThreadFits};
 ghost use Rattle.model.specs.Lines.{digits};
 ghost use Rattle.model.specs.Rules.{ruleAt};
-ghost use Rattle.reach.specs.Cost.{idOf};
-ghost use Rattle.reach.specs.Ends.{endsOf};
+ghost use Rattle.costs.specs.Cost.{idOf};
+ghost use Rattle.costs.specs.Ends.{endsOf};
 ghost use Rattle.witness.specs.Plan.{planSize, statesIn, endsIn, rightIn, ruleIn, ruleBytes, headBytes, InRange, Planned};
 
 // The byte at a place, as a number.

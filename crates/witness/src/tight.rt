@@ -2,14 +2,14 @@
 use crate::goal::Goal;
 use crate::plan::byte;
 use crate::plan::rule_of;
+use costs::line::entry_at;
+use costs::line::lane_to;
 use model::Right;
 use model::Rule;
-use reach::line::entry_at;
-use reach::line::lane_to;
 ghost use mathlib.Core.Path.{_≡_};
 ghost use Prim.Native.Nat.{ℕ, _+_, _≤_, _<_};
 ghost use Rattle.model.specs.Fits.{RuleFits, RightFits};
-ghost use Rattle.reach.specs.Lanes.{endLane};
+ghost use Rattle.costs.specs.Lanes.{endLane};
 ghost use Rattle.witness.specs.Goals.{entryOf, Ready, Says, Sums, Splits, TightBy, Tight};
 ghost use Rattle.witness.specs.Plan.{rulesIn, ruleIn, endsIn, InRange};
 

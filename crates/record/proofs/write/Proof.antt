@@ -4,7 +4,7 @@ use mathlib.Core.Path.{sym, _∙_}
 use native.Mathlib.Omega.{arith}
 use Rattle.model.specs.Valid.{Valid}
 use Rattle.record.proofs.Answers.{both-small, front, faulty, short, whole}
-use Rattle.record.proofs.Lengths.{at-most}
+use Rattle.writer.proofs.Lengths.{at-most}
 use Rattle.record.proofs.write.Statement.{statement}
 use Rattle.record.proofs.write.Tie as tie
 

@@ -1,7 +1,7 @@
 -- `put_clear` meets its contract: `clear`, and then the lines of the lengths.
 use native.Mathlib.Omega.{arith}
 use borrow.Author.Needs.{needs}
-use Rattle.record.proofs.Puts.{_then_}
+use Rattle.writer.proofs.Puts.{_then_}
 use Rattle.report.proofs.lines.put_clear.Statement.{statement}
 use Rattle.report.proofs.lines.put_clear.Tie as tie
 

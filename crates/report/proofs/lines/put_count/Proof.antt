@@ -2,7 +2,7 @@
 use native.Mathlib.Omega.{arith}
 use borrow.Author.Needs.{needs}
 use lib.ListN.{length-append}
-use Rattle.record.proofs.Puts.{_then_}
+use Rattle.writer.proofs.Puts.{_then_}
 use Rattle.report.specs.Text.{countLine}
 use Rattle.report.proofs.lines.put_count.Statement.{statement}
 use Rattle.report.proofs.lines.put_count.Tie as tie

@@ -2,7 +2,7 @@
 use native.Mathlib.Omega.{arith}
 use borrow.Author.Needs.{needs}
 use lib.ListN.{length-append}
-use Rattle.record.proofs.Puts.{_then_}
+use Rattle.writer.proofs.Puts.{_then_}
 use Rattle.report.specs.Text.{stepLine}
 use Rattle.report.proofs.Listing.{even-line, odd-line}
 use Rattle.report.proofs.lines.put_step.Statement.{statement}

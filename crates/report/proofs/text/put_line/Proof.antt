@@ -2,7 +2,7 @@
 use native.Mathlib.Omega.{arith}
 use borrow.Author.Needs.{needs}
 use lib.ListN.{length-append}
-use Rattle.record.proofs.Puts.{_then_}
+use Rattle.writer.proofs.Puts.{_then_}
 use Rattle.report.specs.Text.{line}
 use Rattle.report.proofs.text.put_line.Statement.{statement}
 use Rattle.report.proofs.text.put_line.Tie as tie

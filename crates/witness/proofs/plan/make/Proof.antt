@@ -4,7 +4,7 @@ use native.Mathlib.Omega.{arith}
 use borrow.Author.Needs.{needs}
 use Rattle.model.specs.Lines.{digits}
 use Rattle.model.proofs.Positions.{digits-states}
-use Rattle.reach.specs.Cost.{idOf}
+use Rattle.costs.specs.Cost.{idOf}
 use Rattle.witness.proofs.Heads.{made, planned, ends-made, in-range}
 use Rattle.witness.proofs.plan.make.Statement.{statement}
 use Rattle.witness.proofs.plan.make.Tie as tie

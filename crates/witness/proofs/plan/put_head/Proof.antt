@@ -3,7 +3,7 @@ use Prim.Native.Nat.{suc, _*_}
 use borrow.Author.Needs.{needs}
 use lib.ListN.{length-set}
 use Rattle.model.specs.Lines.{digits}
-use Rattle.reach.specs.Cost.{idOf}
+use Rattle.costs.specs.Cost.{idOf}
 use Rattle.witness.proofs.Heads.{head-stored}
 use Rattle.witness.proofs.plan.put_head.Statement.{statement}
 use Rattle.witness.proofs.plan.put_head.Tie as tie

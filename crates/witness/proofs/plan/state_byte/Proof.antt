@@ -1,7 +1,7 @@
 -- `state_byte` meets its contract: a state is below 4; 2n + 2 states are twice n + 1.
 use native.Mathlib.Omega.{arith}
 use borrow.Author.Needs.{needs}
-use Rattle.reach.proofs.Values.{full-count, full-value}
+use Rattle.costs.proofs.Values.{full-count, full-value}
 use Rattle.witness.proofs.plan.state_byte.Statement.{statement}
 use Rattle.witness.proofs.plan.state_byte.Tie as tie
 

@@ -1,6 +1,6 @@
 -- `solve` meets its contract: by cases on the number of turn ends, each from a table that is exact for it.
 use borrow.Author.Needs.{needs}
-use Rattle.reach.proofs.Filled.{two}
+use Rattle.costs.proofs.Filled.{two}
 use Rattle.witness.proofs.solve.solve.Statement.{statement}
 use Rattle.witness.proofs.solve.solve.Tie as tie
 

@@ -1,8 +1,8 @@
 -- `start_goal` meets its contract: the line's states are read off its value.
 use native.Mathlib.Omega.{arith}
 use borrow.Author.Needs.{needs}
-use Rattle.reach.specs.Cost.{idOf}
-use Rattle.reach.proofs.Values.{full-value}
+use Rattle.costs.specs.Cost.{idOf}
+use Rattle.costs.proofs.Values.{full-value}
 use Rattle.witness.proofs.Threads.{starts}
 use Rattle.witness.proofs.steps.start_goal.Statement.{statement}
 use Rattle.witness.proofs.steps.start_goal.Tie as tie

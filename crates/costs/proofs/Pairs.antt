@@ -1,0 +1,156 @@
+-- The least steps of a thread along a line, by its stretches: over the floor a run with one symbol is a stretch of that
+-- symbol that stays, or one that pops it and then a stretch of the floor that stays; each candidate of the minimum is one
+-- of these.
+use mathlib.Core.List.{List, [], _∷_, _++_, append-nil}
+use mathlib.Core.Logic.{_⊎_, inl, inr}
+use mathlib.Core.Path.{_≡_, refl, subst}
+use Prim.Native.Nat.{ℕ, zero, suc, _+_, _≤_, _<_, min}
+use native.Mathlib.Decide.{decLt}
+use native.Mathlib.Nat.{le-refl}
+use native.Mathlib.Omega.{arith}
+use lib.ListN.{length, length-append}
+use Rattle.model.specs.declared.Right.{Right}
+use Rattle.model.specs.declared.Thread.{Thread}
+use Rattle.model.specs.Walk.{Step}
+use Rattle.model.proofs.Inside.{applies-iff}
+use Rattle.model.specs.Fits.{ThreadFits}
+use Rattle.summary.specs.Control.{Control, TurnEnd, Moves, Switches, entry, InTable, Inside, Summed}
+use Rattle.summary.specs.Edges.{bestOf}
+use Rattle.summary.specs.Stretch.{End, pop, stay, Path, Stretch}
+use Rattle.summary.specs.Table.{capped, Least, Exact}
+use Rattle.summary.proofs.Best.{exact-closed}
+use Rattle.summary.proofs.Floors.{floored, unfloored}
+use Rattle.summary.proofs.Overs.{Over, within, gone, overs, pops, stays}
+use Rattle.summary.proofs.Ranging.{Sym, ranged}
+use Rattle.summary.proofs.Relaxing.{better}
+use Rattle.summary.proofs.Tables.{Bounded, bounded}
+use Rattle.costs.specs.Cost.{control, through, overStates, overTurns, pairCost}
+use Rattle.costs.specs.Ends.{turnOf}
+
+-- A count that is reached and at most m is so after a candidate more, and after one that is.
+lower : (x y old m : ℕ) → (old ≤ 4096) × (old ≤ m) → (bestOf 0 x y old ≤ 4096) × (bestOf 0 x y old ≤ m)
+lower x y old m h = let b = better 0 x y old in (omega (arith, b .low), omega (arith, b .low))
+
+hits : (x y old l m : ℕ) → (x ≤ 4096) × (x + l ≤ m) → (y ≤ 4096) × (y + 0 ≤ l)
+    → (bestOf 0 x y old ≤ 4096) × (bestOf 0 x y old ≤ m)
+hits x y old l m h k = let b = better 0 x y old .most (h .0) (k .0) in (b .0, omega (arith, b .1))
+
+-- A count that some run with one symbol has, if it is reached.
+abbrev Made : {C S : Type 0} (Move : C → ℕ → S → Right → C → Type 0) (Switch : C → C → Type 0) → C → ℕ → C → ℕ → Type 0
+Made {S = S} Move Switch c γ d v = v ≤ 4096 → (ss : List S) × Path Move Switch c (γ ∷ []) ss d × (capped (length ss) ≡ v)
+
+module _ {C S : Type 0} {Move : C → ℕ → S → Right → C → Type 0} {Switch : C → C → Type 0} (φ : ℕ)
+    (idle : (c d : C) (s : S) (x : Right) → Move c φ s x d → ⊥) where
+  -- The floor is never popped.
+  never : {c q : C} {ss rest : List S} → Stretch Move Switch c φ (pop q) ss rest → ⊥
+  never (Stretch.remove m) = idle _ _ _ _ m
+  never (Stretch.swap m r) = idle _ _ _ _ m
+  never (Stretch.both m r q) = idle _ _ _ _ m
+  never (Stretch.change s r) = never r
+
+  -- The two ways as runs, by exact entries.
+  alone : {c d : C} {γ x : ℕ} → Exact Move Switch c γ (stay d) x → Made Move Switch c γ d x
+  alone f h = let u = f .some h in (u .0, rw append-nil at (stays Move Switch {w = []} (u .1 [])), u .2)
+
+  joined : {c u d : C} {γ x y old : ℕ} → Exact Move Switch c γ (pop u) x → Exact Move Switch u φ (stay d) y
+      → Made Move Switch c γ d old → Made Move Switch c γ d (bestOf 0 x y old)
+  joined {c} {u} {d} {γ} {x} {y} {old} f g r = which (better 0 x y old .which)
+    where
+      which : (bestOf 0 x y old ≡ old) ⊎ ((x ≤ 4096) × (y ≤ 4096) × (bestOf 0 x y old ≡ min (0 + x + y) 4096))
+          → Made Move Switch c γ d (bestOf 0 x y old)
+      which (inl e) h = rw e (r (rw e at h))
+      which (inr e) h =
+          let v = f .some (e .0) in
+          let w = g .some (e .1) in
+          let run : Path Move Switch c (γ ∷ φ ∷ []) (v .0 ++ (w .0 ++ [])) d =
+          pops Move Switch (v .1 (w .0 ++ [])) (stays Move Switch (w .1 [])) in (
+            v .0 ++ (w .0 ++ []),
+            unfloored Move Switch φ idle run (γ ∷ []) refl,
+            simp (length-append, append-nil) (omega (arith, v .2, w .2, e .2)),
+          )
+
+module _ (ends : ℕ → TurnEnd) (tab : List ℕ) (c : Control) (γ : ℕ) (d : Control) (G n : ℕ) (P : ℕ → Type 0)
+    (step : (j s old : ℕ) → j ≤ n → s < G → P old → P (through ends tab c γ d (control j s) old)) where
+  -- What each candidate keeps is kept by all of them.
+  states-made : (j k old : ℕ) → j ≤ n → k ≤ G → P old → P (overStates ends tab c γ d j k old)
+  unfolding overStates
+  states-made j zero old i b r = r
+  states-made j (suc k) old i b r = step j k (overStates ends tab c γ d j k old) i b (states-made j k old i (omega arith) r)
+
+  pub turns-made : P (entry ends tab c γ (stay d)) → (k : ℕ) → k ≤ suc n → P (overTurns ends tab c γ d G k)
+  unfolding overTurns
+  turns-made r zero b = r
+  turns-made r (suc k) b = states-made k G (overTurns ends tab c γ d G k) (omega arith) (le-refl G) (turns-made r k (omega arith))
+
+  -- What one candidate makes, and each keeps, is made by all of them.
+  module _ (j s : ℕ) (i : j ≤ n) (l : s < G) (hit : (old : ℕ) → P (through ends tab c γ d (control j s) old)) where
+    states-hit : (k old : ℕ) → s < k → k ≤ G → P (overStates ends tab c γ d j k old)
+    unfolding overStates
+    states-hit zero old h b = absurd (omega arith)
+    states-hit (suc k) old h b =
+        elim (decLt s k) [
+          | yes e ↦ step j k (overStates ends tab c γ d j k old) i b (states-hit k old e (omega arith))
+          | no e ↦
+              let same : s ≡ k = omega arith in
+              subst (λ u. P (through ends tab c γ d (control j u) (overStates ends tab c γ d j k old))) same
+              (hit (overStates ends tab c γ d j k old))
+        ]
+
+    turns-hit : (k : ℕ) → j < k → k ≤ suc n → P (overTurns ends tab c γ d G k)
+    unfolding overTurns
+    turns-hit zero h b = absurd (omega arith)
+    turns-hit (suc k) h b =
+        elim (decLt j k) [
+          | yes e ↦ states-made k G (overTurns ends tab c γ d G k) (omega arith) (le-refl G) (turns-hit k e (omega arith))
+          | no e ↦
+              let same : j ≡ k = omega arith in
+              subst (λ u. P (overStates ends tab c γ d u G (overTurns ends tab c γ d G u))) same
+              (states-hit G (overTurns ends tab c γ d G j) l (le-refl G))
+        ]
+
+module _ {t : Thread} {G n : ℕ} {ends : ℕ → TurnEnd} {tab : List ℕ} (fits : ThreadFits G t) (inside : Inside G n ends)
+    (sums : Summed t G n ends tab) (turnOf : ℕ → ℕ) where
+  -- No rule takes the floor.
+  pub idle : (c d : Control) (s : Step) (x : Right) → Moves t turnOf c 16 s x d → ⊥
+  idle c d s x m =
+      let a = applies-iff t (s .rule) (c .shared) 16 .0 (m .rule) in
+      let r = fits .rules (s .rule) (a .listed) in
+      omega (arith, a .symbol, r .top)
+
+  -- A stretch from a control of the table ends at one, and its entry is no more than its steps.
+  bound : {c : Control} {γ : ℕ} {e : End Control} {ss rest : List Step} → InTable G n c → γ ≤ 16
+      → Stretch (Moves t turnOf) (Switches ends n) c γ e ss rest
+      → Bounded (Moves t turnOf) (Switches ends n) (InTable G n) Sym (entry ends tab) c γ e ss rest
+  bound p q r =
+      let within = ranged turnOf fits inside in
+      bounded _ _ _ _ within (exact-closed _ _ (entry ends tab) within (sums .exact turnOf)) p q r
+
+  -- The cost read off the table is the capped least number of steps.
+  pub pair-cost : (c : Control) (γ : ℕ) (d : Control) → InTable G n c → γ ≤ 15 → InTable G n d
+      → Least (λ ss. Path (Moves t turnOf) (Switches ends n) c (γ ∷ []) ss d) (pairCost ends tab G n c γ d)
+  pair-cost c γ d p low q =
+      record {
+        some = turns-made ends tab c γ d G n (Made (Moves t turnOf) (Switches ends n) c γ d)
+            (λ j s old i l. joined 16 idle (sums .exact turnOf c γ (pop (control j s)) p (omega arith) (i, l))
+            (sums .exact turnOf (control j s) 16 (stay d) (i, l) (omega arith) q))
+            (alone 16 idle (sums .exact turnOf c γ (stay d) p (omega arith) q)) (suc n) (le-refl (suc n));
+        least = λ {ss} r. least (overs _ _ (floored _ _ 16 idle r));
+      }
+    where
+      lowers : (ss : List Step) (j s old : ℕ) → j ≤ n → s < G → (old ≤ 4096) × (old ≤ length ss)
+          → (through ends tab c γ d (control j s) old ≤ 4096) × (through ends tab c γ d (control j s) old ≤ length ss)
+      lowers ss j s old i l = lower _ _ old (length ss)
+
+      least : {ss : List Step} → Over (Moves t turnOf) (Switches ends n) c (γ ∷ 16 ∷ []) ss d
+          → (pairCost ends tab G n c γ d ≤ 4096) × (pairCost ends tab G n c γ d ≤ length ss)
+      least {ss} (within r) =
+          let e = bound p (omega arith) r in
+          turns-made ends tab c γ d G n (λ v. (v ≤ 4096) × (v ≤ length ss)) (lowers ss) (e .reached, omega (arith, e .most)) (suc n)
+          (le-refl (suc n))
+      least {ss} (gone {q = u} {mid = mid} r (within f)) =
+          let x = bound p (omega arith) r in
+          let y = bound (x .place) (omega arith) f in
+          let i = x .place in
+          turns-hit ends tab c γ d G n (λ v. (v ≤ 4096) × (v ≤ length ss)) (lowers ss) (u .passed) (u .shared) (i .0) (i .1)
+          (λ old. hits _ _ old (length mid) (length ss) (x .reached, x .most) (y .reached, y .most)) (suc n) (omega (arith, i .0)) (le-refl (suc n))
+      least (gone r (gone f o)) = absurd (never 16 idle f)

@@ -1,0 +1,37 @@
+-- The cost of a line, from its parts read off the line's value; n turn ends make 2n + 2 states.
+use mathlib.Core.List.{List}
+use mathlib.Core.Path.{_≡_, subst}
+use Prim.Native.Nat.{ℕ, suc, _+_, _*_, _^_, _<_}
+use native.Mathlib.Omega.{arith}
+use lib.ListN.{getD}
+use Rattle.model.specs.Lines.{digits}
+use Rattle.model.specs.Walk.{ThreadId}
+use Rattle.summary.specs.Control.{TurnEnd}
+use Rattle.costs.specs.Cost.{control, pairCost, lineCost}
+use Rattle.costs.specs.Ends.{turnOf, endsOf, firstState, lastState}
+use Rattle.costs.specs.Lanes.{endLane, lineLane, costOf}
+
+-- Each turn end is two states, and two stand behind the last.
+pub full-count : (n : ℕ) → 2 * n + 2 ≡ 2 * suc n
+full-count n = omega arith
+
+-- A value of a full line, by the number of its states.
+pub full-value : (g n : ℕ) {v : ℕ} → v < g ^ (2 * suc n) → v < g ^ (2 * n + 2)
+full-value g n h = rw (full-count n) h
+
+-- The parts of a line that the cost takes: where it starts and ends, and the lanes of its turn ends.
+pub line-costed : (i : ThreadId) (tab : List ℕ) (G n g γ v : ℕ) {from to turn a b r : ℕ}
+    → from ≡ firstState i g (digits G (2 * n + 2) v) → turn ≡ turnOf i n → to ≡ getD (digits G (2 * n + 2) v) turn 0
+    → a ≡ lineLane i G (2 * n + 2) v 0 → b ≡ lineLane i G (2 * n + 2) v 1
+    → ((ends : ℕ → TurnEnd) → a ≡ endLane ends 0 → b ≡ endLane ends 1
+    → r ≡ pairCost ends tab G n (control 0 from) γ (control n to))
+    → r ≡ costOf i tab G n g γ v
+line-costed i tab G n g γ v {from} {to} {turn} {r = r} p t q x y f =
+    let line : List ℕ = digits G (2 * n + 2) v in
+    let z : r ≡ pairCost (endsOf i line) tab G n (control 0 from) γ (control n to) = f (endsOf i line) x y in
+    let last : to ≡ lastState i n line = subst (λ j. to ≡ getD line j 0) t q in
+    let w : r ≡ pairCost (endsOf i line) tab G n (control 0 (firstState i g line)) γ (control n to) =
+    subst (λ s. r ≡ pairCost (endsOf i line) tab G n (control 0 s) γ (control n to)) p z in
+    let whole : r ≡ lineCost i tab G n g γ line =
+    subst (λ s. r ≡ pairCost (endsOf i line) tab G n (control 0 (firstState i g line)) γ (control n s)) last w in
+    subst (λ len. r ≡ lineCost i tab G n g γ (digits G len v)) (full-count n) whole

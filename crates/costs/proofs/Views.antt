@@ -1,0 +1,213 @@
+-- A run is two views of one line. In each turn the owner makes its steps, and the other thread's view is one `skip`, which
+-- does not look at the shared state: so a run splits step by step, and two views join turn by turn.
+use mathlib.Core.List.{List, [], _∷_}
+use mathlib.Core.Logic.{_↔_}
+use mathlib.Core.Path.{_≡_, refl, sym, ap, _∙_}
+use Prim.Native.Nat.{ℕ, suc, _+_}
+use native.Mathlib.Omega.{arith}
+use lib.Dec.{T}
+use lib.ListN.{length}
+use Rattle.model.specs.declared.Model.{Model}
+use Rattle.model.specs.Rules.{ruleAt, applies, put}
+use Rattle.model.specs.Runs.{Turns, stop, end, move, Marked}
+use Rattle.model.specs.Walk.{ThreadId, A, B, other, ownerOf, threadOf, Stacks, stackOf, withStack, startStacks, Step}
+use Rattle.costs.specs.View.{View, stop, skip, end, move}
+
+-- The steps of two lists in one, each list in its own order.
+pub data Merged : List Step → List Step → List Step → Type 0 where
+  none : Merged [] [] []
+  left : {s : Step} {xs ys ss : List Step} → Merged xs ys ss → Merged (s ∷ xs) ys (s ∷ ss)
+  right : {s : Step} {xs ys ss : List Step} → Merged xs ys ss → Merged xs (s ∷ ys) (s ∷ ss)
+
+-- Merged lists in the other order.
+swapped : {xs ys ss : List Step} → Merged xs ys ss → Merged ys xs ss
+swapped none = none
+swapped (left r) = right (swapped r)
+swapped (right r) = left (swapped r)
+
+-- Merging keeps the number of steps.
+pub merged-length : {xs ys ss : List Step} → Merged xs ys ss → length ss ≡ length xs + length ys
+merged-length none = refl
+merged-length (left r) = omega (arith, merged-length r)
+merged-length (right r) = omega (arith, merged-length r)
+
+-- The two threads, in either order.
+data Pair : ThreadId → ThreadId → Type 0 where
+  ab : Pair A B
+  ba : Pair B A
+
+-- The two threads in the other order.
+flip : {i j : ThreadId} → Pair i j → Pair j i
+flip ab = ba
+flip ba = ab
+
+-- The second thread is the other one.
+second : {i j : ThreadId} → Pair i j → other i ≡ j
+second ab = refl
+second ba = refl
+
+-- A changed stack is the new one.
+changed : (i : ThreadId) (w : List ℕ) (σ : Stacks) → stackOf i (withStack i w σ) ≡ w
+changed A w σ = refl
+changed B w σ = refl
+
+-- The other stack is kept.
+kept : {i j : ThreadId} → Pair i j → (w : List ℕ) (σ : Stacks) → stackOf j (withStack i w σ) ≡ stackOf j σ
+kept ab w σ = refl
+kept ba w σ = refl
+
+-- A turn of the first thread is one of the other of the second.
+others-turn : {i j : ThreadId} → Pair i j → (t : ℕ) → ownerOf t ≡ i → ownerOf t ≡ other j
+others-turn p t e = e ∙ sym (second (flip p))
+
+-- The second thread has the next turn.
+next-turn : {i j : ThreadId} → Pair i j → (t : ℕ) → ownerOf t ≡ i → ownerOf (suc t) ≡ j
+next-turn p t e = ap other e ∙ second p
+
+-- No thread is the other one.
+pub apart : (i : ThreadId) → i ≡ other i → ⊥
+apart A e = let z : _≡_ {A = ℕ} 0 1 = cc in omega arith
+apart B e = let z : _≡_ {A = ℕ} 0 1 = cc in omega arith
+
+-- A's and B's views of one line, with n steps in all.
+pub record Views (m : Model) (t g : ℕ) (σ : Stacks) (line : List ℕ) (n : ℕ) : Type 0 where
+  pub xs : List Step
+  pub ys : List Step
+  pub a : View m A t g (σ .a) line xs
+  pub b : View m B t g (σ .b) line ys
+  pub steps : length xs + length ys ≡ n
+
+-- The views of two threads, and the steps of both.
+record Both (m : Model) (i j : ThreadId) (t g : ℕ) (σ : Stacks) (line : List ℕ) (ss : List Step) : Type 0 where
+  mine : List Step
+  theirs : List Step
+  own : View m i t g (stackOf i σ) line mine
+  others : View m j t g (stackOf j σ) line theirs
+  merged : Merged mine theirs ss
+
+-- A run with the steps of both views.
+pub record Joined (m : Model) (t g : ℕ) (σ : Stacks) (line : List ℕ) (xs ys : List Step) : Type 0 where
+  pub steps : List Step
+  pub turns : Turns m t g σ line steps
+  pub merged : Merged xs ys steps
+
+module _ {m : Model} where
+  -- The views in the other order.
+  over : {i j : ThreadId} {t g : ℕ} {σ : Stacks} {line : List ℕ} {ss : List Step}
+      → Both m i j t g σ line ss → Both m j i t g σ line ss
+  over v =
+      record { mine = v .theirs; theirs = v .mine; own = v .others; others = v .own; merged = swapped (v .merged) }
+
+  -- The run of the views in the other order.
+  joined-over : {t g : ℕ} {σ : Stacks} {line : List ℕ} {xs ys : List Step}
+      → Joined m t g σ line xs ys → Joined m t g σ line ys xs
+  joined-over r = record { steps = r .steps; turns = r .turns; merged = swapped (r .merged) }
+
+  -- In a turn of the other thread a view is a skip.
+  pub skips : {j : ThreadId} {t g o : ℕ} {w line : List ℕ} {ss : List Step}
+      → View m j t g w (o ∷ line) ss → ownerOf t ≡ other j → View m j (suc t) o w line ss
+  skips (skip e r) h = r
+  skips {j} (end e r) h = absurd (apart j (sym e ∙ h))
+  skips {j} (move e p r) h = absurd (apart j (sym e ∙ h))
+
+  -- A run is the views of the thread that has the turn and of the other one.
+  both : {i j : ThreadId} {t g : ℕ} {σ : Stacks} {line : List ℕ} {ss : List Step}
+      → Turns m t g σ line ss → Pair i j → ownerOf t ≡ i → Both m i j t g σ line ss
+  both stop p e = record { mine = []; theirs = []; own = stop; others = stop; merged = none }
+  both {t = t} (end r) p e =
+      let v = over (both r (flip p) (next-turn p t e)) in
+      record {
+        mine = v .mine;
+        theirs = v .theirs;
+        own = end e (v .own);
+        others = skip (others-turn p t e) (v .others);
+        merged = v .merged;
+      }
+  both {t = t} (move {r = n} q h r) p e =
+      let v = rw e at (both r p e) in
+      record {
+        mine = record { turn = t; rule = n } ∷ v .mine;
+        theirs = v .theirs;
+        own = rw (rw e at q) (move e (rw e at h) (rw changed at (v .own)));
+        others = skip (others-turn p t e) (skips (rw (kept p) at (v .others)) (others-turn p t e));
+        merged = left (v .merged);
+      }
+
+  -- A step of a run, made by the thread that has the turn.
+  moves : {i : ThreadId} {t g r top o : ℕ} {σ : Stacks} {w line : List ℕ} {ss : List Step}
+      → ownerOf t ≡ i → stackOf i σ ≡ top ∷ w → T (applies (threadOf i m) r g top)
+      → Turns m t (ruleAt (threadOf i m) r .after .0) (withStack i (put (ruleAt (threadOf i m) r .right) w) σ) (o ∷ line) ss
+      → Turns m t g σ (o ∷ line) (record { turn = t; rule = r } ∷ ss)
+  moves e q h r = move (rw (← e) at q) (rw (← e) at h) (rw (← e) at r)
+
+  -- A turn: its owner's steps, and then the rest of the run.
+  turn : {i j : ThreadId} {t g o : ℕ} {w line : List ℕ} {xs ys : List Step} → View m i t g w (o ∷ line) xs
+      → Pair i j → (σ : Stacks) → ownerOf t ≡ i → stackOf i σ ≡ w
+      → ((τ : Stacks) (zs : List Step) → stackOf j τ ≡ stackOf j σ → View m i (suc t) o (stackOf i τ) line zs
+      → Joined m (suc t) o τ line zs ys)
+      → Joined m t g σ (o ∷ line) xs ys
+  turn {i} (skip h v) p σ e q go = absurd (apart i (sym e ∙ h))
+  turn {xs = xs} (end h v) p σ e q go =
+      let r = go σ xs refl (rw q v) in
+      record { steps = r .steps; turns = end (r .turns); merged = r .merged }
+  turn {i} {t = t} (move {r = n} {w = w} h k v) p σ e q go =
+      let τ = withStack i (put (ruleAt (threadOf i m) n .right) w) σ in
+      let r = turn v p τ e (changed i _ σ) (λ ρ zs s. go ρ zs (s ∙ kept p _ σ)) in
+      record {
+        steps = record { turn = t; rule = n } ∷ r .steps;
+        turns = moves e q k (r .turns);
+        merged = left (r .merged);
+      }
+
+  -- Two views without turns are the run that stops.
+  stops : {i j : ThreadId} {t g : ℕ} {σ : Stacks} {u w : List ℕ} {xs ys : List Step}
+      → View m i t g u [] xs → View m j t g w [] ys → Joined m t g σ [] xs ys
+  stops stop stop = record { steps = []; turns = stop; merged = none }
+
+  -- The views of the thread that has the turn and of the other one are a run.
+  join : (line : List ℕ) {i j : ThreadId} {t g : ℕ} (σ : Stacks) {xs ys : List Step} → Pair i j → ownerOf t ≡ i
+      → View m i t g (stackOf i σ) line xs → View m j t g (stackOf j σ) line ys → Joined m t g σ line xs ys
+  join [] σ p e v w = stops v w
+  join (o ∷ line) {t = t} σ p e v w =
+      turn v p σ e refl (λ τ zs s u.
+      joined-over (join line τ (flip p) (next-turn p t e) (rw s (skips w (others-turn p t e))) u))
+
+  -- A run is A's and B's views, whichever has the turn.
+  split-at : (i : ThreadId) {t g : ℕ} {σ : Stacks} {line : List ℕ} {ss : List Step} → ownerOf t ≡ i
+      → Turns m t g σ line ss → Both m A B t g σ line ss
+  split-at A e r = both r ab e
+  split-at B e r = over (both r ba e)
+
+  -- A's and B's views are a run, whichever has the turn.
+  join-at : (i : ThreadId) {t g : ℕ} {σ : Stacks} {line : List ℕ} {xs ys : List Step} → ownerOf t ≡ i
+      → View m A t g (σ .a) line xs → View m B t g (σ .b) line ys → Joined m t g σ line xs ys
+  join-at A {σ = σ} {line = line} e v w = join line σ ab e v w
+  join-at B {σ = σ} {line = line} e v w = joined-over (join line σ ba e w v)
+
+  -- A run is both threads' views of its line, and their steps are as many as the run's.
+  pub views : {t g : ℕ} {σ : Stacks} {line : List ℕ} {ss : List Step} → Turns m t g σ line ss → Views m t g σ line (length ss)
+  views {t} r =
+      let v = split-at (ownerOf t) refl r in
+      record { xs = v .mine; ys = v .theirs; a = v .own; b = v .others; steps = sym (merged-length (v .merged)) }
+
+  -- Two views of one line are a run, whose steps are theirs, each view's in its own order.
+  pub merged-views : {t g : ℕ} {σ : Stacks} {line : List ℕ} {xs ys : List Step}
+      → View m A t g (σ .a) line xs → View m B t g (σ .b) line ys → Joined m t g σ line xs ys
+  merged-views {t} v w = join-at (ownerOf t) refl v w
+
+  -- Two views of one line are a run with as many steps as both.
+  pub joined : {t g : ℕ} {σ : Stacks} {line : List ℕ} {xs ys : List Step}
+      → View m A t g (σ .a) line xs → View m B t g (σ .b) line ys
+      → (ss : List Step) × Turns m t g σ line ss × (length ss ≡ length xs + length ys)
+  joined v w = let r = merged-views v w in (r .steps, r .turns, merged-length (r .merged))
+
+  -- A line is marked exactly if both threads have views of it from the start.
+  pub marked-views : (line : List ℕ)
+      → Marked m line ↔ (
+      (xs : List Step) × (ys : List Step)
+      × View m A 0 (m .start .0) (m .a .first .0 ∷ []) line xs × View m B 0 (m .start .0) (m .b .first .0 ∷ []) line ys
+      )
+  marked-views line = (
+    λ r. let v = views (r .1) in (v .xs, v .ys, v .a, v .b),
+    λ v. let r = joined {σ = startStacks m} (v .2) (v .3) in (r .0, r .1),
+  )

@@ -1,0 +1,74 @@
+-- `over_states` meets its contract. The invariant: best is the least over the states below s.
+use mathlib.Core.Path.{_≡_, refl}
+use Prim.Native.Nat.{ℕ, _-_, _≤_}
+use native.Mathlib.Nat.{le-antisymm}
+use borrow.Author.Needs.{needs}
+use Rattle.costs.proofs.Entries.{one-more}
+use Rattle.costs.specs.Cost.{control, overStates}
+use Rattle.costs.specs.Lanes.{LaneTo}
+use Rattle.summary.specs.Control.{TurnEnd}
+use Rattle.costs.proofs.line.over_states.Statement.{statement}
+use Rattle.costs.proofs.line.over_states.Tie as tie
+
+abbrev Inv-loop : tie.InvT-loop
+Inv-loop t g n j from top to before last old best₀ s₀ best s =
+    (s ≤ g)
+    × ((ends : ℕ → TurnEnd) → LaneTo ends j before → LaneTo ends n last
+    → best ≡ overStates ends t (control 0 from) top (control n to) j s old)
+
+abbrev μ-loop : tie.MeasureT-loop
+μ-loop t g n j from top to before last old best₀ s₀ best s = g - s
+
+loop-holds : tie.Need-loop-holds Inv-loop μ-loop
+unfolding overStates
+loop-holds c = (search needs, λ ends p q. refl)
+
+entry-at-requires : tie.Need-entry-at-requires Inv-loop μ-loop
+entry-at-requires c κs = search needs
+
+sub-entry-at : tie.Need-sub-entry-at Inv-loop μ-loop
+sub-entry-at c = search needs
+
+add-entry-at : tie.Need-add-entry-at Inv-loop μ-loop
+add-entry-at c = search needs
+
+entry-at-requires-2 : tie.Need-entry-at-requires-2 Inv-loop μ-loop
+entry-at-requires-2 c κs = search needs
+
+joined-requires : tie.Need-joined-requires Inv-loop μ-loop
+joined-requires c κs = search needs
+
+add-s : tie.Need-add-s Inv-loop μ-loop
+add-s c = search needs
+
+loop-less : tie.Need-loop-less Inv-loop μ-loop
+loop-less c = search needs
+
+loop-again : tie.Need-loop-again Inv-loop μ-loop
+loop-again c =
+    let pre = c .before .before .before .before .before .before .pre in (
+      search needs,
+      λ ends p q.
+          one-more ends _ _ _ _ _ _ (pre .2) q _ _ _ _ _ _ _ _ (pre .3) p (c .before .before .entry-at .ensures) (c .before .entry-at2 .ensures)
+          (c .joined .ensures) (c .before .before .before .before .loop .inv .1 ends p q),
+    )
+
+returns : tie.Need-returns Inv-loop μ-loop
+returns c = rw (le-antisymm (c .before .loop .inv .0) (c .loop-test .left)) at (c .before .loop .inv .1)
+
+pub over-states-spec : {M : Type 1} → statement M
+over-states-spec =
+    tie.close
+    (tie.spec
+    Inv-loop
+    μ-loop
+    loop-holds
+    entry-at-requires
+    sub-entry-at
+    add-entry-at
+    entry-at-requires-2
+    joined-requires
+    add-s
+    loop-less
+    loop-again
+    returns)

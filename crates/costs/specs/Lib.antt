@@ -1,0 +1,4 @@
+pub mod Cost
+pub mod Ends
+pub mod Lanes
+pub mod View

@@ -1,0 +1,140 @@
+// The cost of one full line for a thread, read off its table.
+use crate::parts::first_state;
+use crate::parts::lane_of;
+use crate::parts::state_at;
+use crate::parts::turn_of;
+use summary::cells::FIRST;
+use summary::cells::SECOND;
+use summary::cells::lane_place;
+use summary::cells::place;
+use summary::edges::better;
+ghost use mathlib.Core.Path.{_≡_};
+ghost use Prim.Native.Nat.{ℕ, suc, _*_, _^_, _≤_, _<_};
+ghost use lib.ListN.{length};
+ghost use Rattle.summary.specs.Cells.{size};
+ghost use Rattle.summary.specs.Control.{TurnEnd};
+ghost use Rattle.summary.specs.Edges.{bestOf, cell};
+ghost use Rattle.costs.specs.Cost.{control, overStates, pairCost, idOf};
+ghost use Rattle.costs.specs.Lanes.{placeAt, endLane, LaneTo, costOf};
+
+// The cost of the full line whose value is v.
+pub fn line_cost(
+    t: &[u64],
+    g: usize,
+    n: usize,
+    other: bool,
+    start: usize,
+    top: usize,
+    v: usize,
+) -> u64
+    requires { ⌜
+        (length (now t) ≡ size) × (1 ≤ g) × (g ≤ 4) × (n ≤ 2) × (start < g) × (top < 17) × (v < g ^ (2 * suc n))
+        ⌝ }
+    ensures { λ r. ⌜ r ≡ costOf (idOf other) (now (t .entry)) g n start top v ⌝ }
+{
+    let len = 2 * n + 2;
+    let from = first_state(g, len, v, other, start);
+    let to = state_at(g, len, v, turn_of(other, n));
+    let a = lane_of(g, len, v, other, 0);
+    let b = lane_of(g, len, v, other, 1);
+    pair_cost(t, g, n, from, top, to, a, b)
+}
+
+// The cost of a thread that starts at a state with one symbol and ends n turn ends later at another; a and b are the lanes
+// of the turn ends.
+fn pair_cost(
+    t: &[u64],
+    g: usize,
+    n: usize,
+    from: usize,
+    top: usize,
+    to: usize,
+    a: usize,
+    b: usize,
+) -> u64
+    requires { ⌜
+        (length (now t) ≡ size) × (g ≤ 4) × (n ≤ 2) × (from < 4) × (top < 17) × (to < 4) × (a < 16) × (b < 16)
+        ⌝ }
+    ensures { λ r. ⌜
+        ((ends : ℕ → TurnEnd) → a ≡ endLane ends 0 → b ≡ endLane ends 1
+        → r ≡ pairCost ends (now (t .entry)) g n (control 0 from) top (control n to))
+        ⌝ }
+{
+    let last = lane_to(n, a, b);
+    let mut best = entry_at(t, n, from, top, 4 + to, last);
+    let mut j = 0;
+    while j <= n {
+        let before = lane_to(j, a, b);
+        best = over_states(t, g, n, j, from, top, to, before, last, best);
+        j += 1;
+    }
+    best
+}
+
+// The least of a count and of the runs whose symbol goes after j turn ends; `before` and `last` are the lanes of the turn
+// ends before turns j and n.
+fn over_states(
+    t: &[u64],
+    g: usize,
+    n: usize,
+    j: usize,
+    from: usize,
+    top: usize,
+    to: usize,
+    before: usize,
+    last: usize,
+    old: u64,
+) -> u64
+    requires { ⌜
+        (length (now t) ≡ size) × (g ≤ 4) × (n ≤ 2) × (j ≤ n) × (from < 4) × (top < 17) × (to < 4) × (before < 16)
+        × (last < 16)
+        ⌝ }
+    ensures { λ r. ⌜
+        ((ends : ℕ → TurnEnd) → LaneTo ends j before → LaneTo ends n last
+        → r ≡ overStates ends (now (t .entry)) (control 0 from) top (control n to) j g old)
+        ⌝ }
+{
+    let mut best = old;
+    let mut s = 0;
+    while s < g {
+        let gone = entry_at(t, j, from, top, s, before);
+        let rest = entry_at(t, n - j, s, 16, 4 + to, last);
+        best = joined(gone, rest, best);
+        s += 1;
+    }
+    best
+}
+
+// The lesser of a count and of two stretches one after the other.
+pub fn joined(x: u64, y: u64, old: u64) -> u64
+    ensures { λ r. ⌜ r ≡ bestOf 0 x y old ⌝ }
+{
+    if 4096 < x {
+        return old;
+    }
+    better(x, y, old)
+}
+
+// The entry of a stretch with `gap` turn ends inside; `lane` is that of the last of them.
+pub fn entry_at(t: &[u64], gap: usize, s: usize, top: usize, d: usize, lane: usize) -> u64
+    requires { ⌜ (length (now t) ≡ size) × (gap ≤ 2) × (s < 4) × (top < 17) × (d < 8) × (lane < 16) ⌝ }
+    ensures { λ r. ⌜ r ≡ cell (now (t .entry)) (placeAt gap s top d lane) ⌝ }
+{
+    if gap == 0 {
+        return t[place(s, top, d)];
+    }
+    if gap == 1 {
+        return t[lane_place(FIRST, s, top, d) + lane];
+    }
+    t[lane_place(SECOND, s, top, d) + lane]
+}
+
+// The lane of the turn end before turn j, of the two that there are at most.
+pub fn lane_to(j: usize, a: usize, b: usize) -> usize
+    requires { ⌜ (j ≤ 2) × (a < 16) × (b < 16) ⌝ }
+    ensures { λ r. ⌜
+        ((ends : ℕ → TurnEnd) → a ≡ endLane ends 0 → b ≡ endLane ends 1 → LaneTo ends j r) × (r < 16)
+        ⌝ }
+{
+    if j == 1 { a } else { b }
+}

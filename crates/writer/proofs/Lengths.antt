@@ -1,0 +1,87 @@
+-- How long the record of a valid model is: at most 649 bytes, and one model has as many.
+use mathlib.Core.Bool.{Bool, true, false, cond}
+use mathlib.Core.List.{List, [], _∷_}
+use mathlib.Core.Path.{_≡_, refl}
+use Prim.Native.Nat.{ℕ, zero, suc, _*_, _≤_}
+use native.Mathlib.Omega.{arith}
+use lib.Dec.{eqb}
+use lib.ListN.{length, take, replicate, length-append}
+use Rattle.model.proofs.Ranges.{valid-fits}
+use Rattle.model.specs.declared.Model.{Model}
+use Rattle.model.specs.declared.Right.{Right}
+use Rattle.model.specs.declared.Right.the-variants.{Remove, Swap, Push}
+use Rattle.model.specs.declared.Rule.{Rule}
+use Rattle.model.specs.declared.Thread.{Thread}
+use Rattle.model.specs.Valid.{Valid, faultOf, firstOf, headFault, threadFault, ruleFault, rightFault, symbolFault}
+use Rattle.writer.specs.Writer.{fieldOf, weight, symbolsOf, ruleOf, ruleListOf, rulesOf, mapOf, headBytes, recordOf}
+
+-- A field has at most one byte.
+field : (d v : ℕ) → length (fieldOf d v) ≤ 1
+unfolding fieldOf
+field d v = go (eqb v d)
+  where
+    go : (b : Bool) → length (cond b [] (v ∷ [])) ≤ 1
+    go true = omega arith
+    go false = omega arith
+
+-- The new symbols are at most two.
+symbols : (x : Right) → length (symbolsOf x) ≤ 2
+symbols Remove = omega arith
+symbols (Swap a) = omega arith
+symbols (Push a b) = omega arith
+
+-- A rule has at most five.
+rule : (r : Rule) → length (ruleOf r) ≤ 5
+unfolding ruleOf
+rule r = simp length-append (omega (arith, field (r .before .0) (r .after .0), symbols (r .right)))
+
+-- The first n rules.
+rules : (n : ℕ) (l : List Rule) → length (ruleListOf (take n l)) ≤ n * 5
+unfolding ruleListOf
+rules zero l = omega arith
+rules (suc n) [] = omega arith
+rules (suc n) (r ∷ l) = simp length-append (omega (arith, rule r, rules n l))
+
+-- A thread has a count and at most 64 rules of five bytes.
+thread : (t : Thread) → t .count ≤ 64 → length (rulesOf t) ≤ 321
+unfolding rulesOf
+thread t h = simp length-append (omega (arith, field 0 (t .count), rules (t .count) (t .rules)))
+
+-- Seven bytes come before the rules at most.
+head : (m : Model) → length (headBytes m) ≤ 7
+unfolding headBytes
+head m =
+    simp length-append
+    (omega
+    (arith, field 4 (m .g), field 2 (m .k), field 0 (m .start .0), field 0 (m .a .first .0), field 0 (m .b .first .0)))
+
+-- The record of a valid model has at most 649 bytes, 7 + 2 · 321.
+pub at-most : (m : Model) → Valid m → length (recordOf m) ≤ 649
+unfolding recordOf
+at-most m h =
+    let f = valid-fits m .0 h in
+    simp length-append (omega (arith, head m, thread (m .a) (f .a .count), thread (m .b) (f .b .count)))
+
+-- A thread of 64 rules that leave nothing to absence.
+full : Thread
+full =
+    let long : Rule = record {
+      before = record { 0 = 0 };
+      symbol = record { 0 = 1 };
+      after = record { 0 = 1 };
+      right = Push (record { 0 = 2 }) (record { 0 = 3 });
+    } in
+    record { first = record { 0 = 1 }; count = 64; rules = replicate 64 long }
+
+-- A model that leaves nothing to absence.
+pub longest : Model
+longest = record { g = 3; k = 1; start = record { 0 = 1 }; target = record { 0 = 2 }; a = full; b = full }
+
+-- It is valid, and no record is longer than its own.
+pub longest-valid : Valid longest
+unfolding longest full faultOf firstOf headFault threadFault ruleFault rightFault symbolFault
+longest-valid = refl
+
+pub longest-length : length (recordOf longest) ≡ 649
+unfolding longest full recordOf mapOf weight fieldOf rulesOf ruleListOf ruleOf headBytes
+longest-length = refl
