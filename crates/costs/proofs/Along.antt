@@ -15,7 +15,8 @@ use Rattle.model.specs.Rules.{put}
 use Rattle.model.specs.Walk.{ThreadId, A, B, other, ownerOf, threadOf, Step}
 use Rattle.summary.specs.Control.{Control, TurnEnd, Moves, Switches, InTable, Inside}
 use Rattle.summary.specs.Stretch.{Path}
-use Rattle.costs.specs.Cost.{control}
+use Rattle.summary.proofs.Leasts.{least-as}
+use Rattle.costs.specs.Cost.{control, LeastAlong, ViewCost}
 use Rattle.costs.specs.Ends.{turnOf, endsOf, firstState, lastState}
 use Rattle.costs.specs.View.{View}
 use Rattle.costs.proofs.Views.{apart, skips}
@@ -144,6 +145,14 @@ line-view m B n g w [] ss h = absurd (omega arith)
 line-view m B n g w (x ∷ line) ss h =
     let f = from-first m B n x w (x ∷ line) ss h in
     (λ v. f .0 (skips v refl), λ p. View.skip refl (f .1 p))
+
+-- So the least steps of its runs along a full line are those of its views of it.
+pub view-cost : (m : Model) (i : ThreadId) (n : ℕ) (line : List ℕ) (cost : ℕ) → length line ≡ 2 * suc n
+    → LeastAlong (threadOf i m) i n (m .start .0) line cost ↔ ViewCost m i line cost
+view-cost m i n line cost size = (
+  least-as (λ ss. line-view m i n (m .start .0) _ line ss size .1) (λ ss. line-view m i n (m .start .0) _ line ss size .0),
+  least-as (λ ss. line-view m i n (m .start .0) _ line ss size .0) (λ ss. line-view m i n (m .start .0) _ line ss size .1),
+)
 
 -- A state of a line.
 state-at : (G : ℕ) (line : List ℕ) → States G line → (k : ℕ) → k < length line → getD line k 0 < G

@@ -14,18 +14,9 @@ use Rattle.model.proofs.Positions.{value-below, length-digits, digits-value, li
 use Rattle.model.proofs.Turns.{marked-padded}
 use Rattle.reach.specs.Answer.{LineTable}
 use Rattle.reach.specs.Bits.{padded, fullAt, Drawn}
-use Rattle.costs.specs.Cost.{LeastAlong, ViewCost, Costs, BothCosts}
-use Rattle.costs.proofs.Along.{line-view}
+use Rattle.costs.specs.Cost.{ViewCost, Costs, BothCosts}
+use Rattle.costs.proofs.Along.{view-cost}
 use Rattle.costs.proofs.Views.{marked-views}
-
--- The least steps of the runs of a thread along a full line are those of its views of the line.
-pub view-cost : (m : Model) (i : ThreadId) (n : ℕ) (line : List ℕ) {cost : ℕ} → length line ≡ 2 * suc n
-    → LeastAlong (threadOf i m) i n (m .start .0) line cost → ViewCost m i line cost
-view-cost m i n line size p =
-    record {
-      some = λ h. let r = p .some h in (r .0, line-view m i n (m .start .0) _ line (r .0) size .1 (r .1), r .2);
-      least = λ {ss} v. p .least (line-view m i n (m .start .0) _ line ss size .0 v);
-    }
 
 -- A line is marked exactly if both costs are reached.
 pub marked-costs : (m : Model) (line : List ℕ) {a b : ℕ}
@@ -73,7 +64,7 @@ line-cost m i costs k c v h =
     let n : ℕ = m .k - 1 in
     let e : 2 * suc n ≡ 2 * m .k = omega arith in
     let low : v < m .g ^ (2 * suc n) = rw e h in
-    rw e at (view-cost m i n (digits (m .g) (2 * suc n) v) (length-digits (m .g) (2 * suc n) v) (c v low))
+    rw e at (view-cost m i n (digits (m .g) (2 * suc n) v) _ (length-digits (m .g) (2 * suc n) v) .0 (c v low))
 
 -- The same at a line of 2K states.
 pub full-cost : (m : Model) (i : ThreadId) (costs : List ℕ) → 1 ≤ m .k

@@ -3,6 +3,7 @@ pub mod Complete
 pub mod Exacts
 pub mod Floors
 pub mod Joins
+pub mod Leasts
 pub mod Loops
 pub mod Meanings
 pub mod Overs

@@ -20,8 +20,8 @@ use Rattle.costs.proofs.Pairs.{turns-made, idle, pair-cost}
 use Rattle.summary.specs.Control.{Control, TurnEnd, Moves, Switches, entry, Inside}
 use Rattle.summary.specs.Edges.{bestOf}
 use Rattle.summary.specs.Stretch.{pop, stay, Path}
-use Rattle.summary.specs.Table.{Least}
 use Rattle.summary.proofs.Floors.{unfloored}
+use Rattle.summary.proofs.Leasts.{least-as, least-once}
 use Rattle.summary.proofs.Overs.{pops, stays}
 use Rattle.summary.proofs.Relaxing.{better}
 use Rattle.witness.specs.declared.goal.Goal.{Goal}
@@ -46,16 +46,6 @@ path-ends h (Path.change {c = c} s p) =
       passed = s .passed;
     })
     (path-ends h p)
-
--- Two counts that are least for the same runs are equal where one is exact.
-least-once : {S : Type 0} {P Q : List S → Type 0} {x y : ℕ} → ((ss : List S) → P ss → Q ss) → ((ss : List S) → Q ss → P ss)
-    → Least P x → Least Q y → x ≤ 4095 → y ≡ x
-least-once f g p q h =
-    let u = p .some (omega arith) in
-    let l = q .least (f (u .0) (u .1)) in
-    let v = q .some (l .0) in
-    let k = p .least (g (v .0) (v .1)) in
-    omega (arith, u .2, l .1, v .2, k .1)
 
 module _ {t : Thread} {i : ThreadId} {G n : ℕ} {line tab plan : List ℕ} (K : Known t i G n line tab plan) (two : n ≤ 2)
     (fits : ThreadFits G t) (size : length line ≡ 2 * suc n) (states : States G line) where
@@ -138,7 +128,7 @@ module _ {t : Thread} {i : ThreadId} {G n : ℕ} {line tab plan : List ℕ} (K :
     splits {count} h least =
         let cost = pair-cost (setting .fits) inside (setting .summed) (turnOf i) c (t .first .0) d (stands .start) (fits .first) (stands .stop) in
         let same : pairCost (endsIn plan) tab (statesIn plan) n c (t .first .0) d ≡ count =
-        least-once (λ ss p. path-ends (λ j l. sym (K .ends j l)) p) (λ ss p. path-ends (K .ends) p) least cost h in
+        least-once (least-as (λ ss p. path-ends (λ j l. sym (K .ends j l)) p) (λ ss p. path-ends (K .ends) p) least) cost (omega arith) in
         subst (λ v. Splits tab plan whole 16 v) same
         (turns-made (endsIn plan) tab c (t .first .0) d (statesIn plan) n (λ (v : ℕ). v ≤ 4095 → Splits tab plan whole 16 v) step
         (λ l. Splits.above (omega arith) (entry-same setting stands)) (suc n) (le-refl (suc n)) (omega arith))

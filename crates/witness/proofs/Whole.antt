@@ -14,7 +14,7 @@ use Rattle.model.specs.Walk.{ThreadId, A, B, threadOf, startStacks}
 use Rattle.model.proofs.Positions.{length-digits}
 use Rattle.model.proofs.Stores.{stored-steps}
 use Rattle.costs.specs.Cost.{RunAlong, LeastAlong, ViewCost}
-use Rattle.costs.proofs.Along.{line-view}
+use Rattle.costs.proofs.Along.{line-view, view-cost}
 use Rattle.witness.specs.Chosen.{Chosen}
 use Rattle.witness.specs.Merge.{merge}
 use Rattle.witness.proofs.Merging.{merged-turns, merge-length}
@@ -28,29 +28,17 @@ pub fronts-fit : (a b : List ℕ) (x y : ℕ) {n : ℕ} → 2 * x ≤ length a �
     → length (take (2 * x) a) + length (take (2 * y) b) ≤ n
 fronts-fit a b x y h k most room = omega (arith, length-take-le (2 * x) a h, length-take-le (2 * y) b k)
 
--- The least steps of a thread's views of a full line are those of its runs along it.
-along-cost : (m : Model) (i : ThreadId) (n : ℕ) (line : List ℕ) {cost : ℕ} → length line ≡ 2 * suc n
-    → ViewCost m i line cost → LeastAlong (threadOf i m) i n (m .start .0) line cost
-along-cost m i n line size p =
-    record {
-      some = λ h. let r = p .some h in (r .0, line-view m i n (m .start .0) _ line (r .0) size .0 (r .1), r .2);
-      least = λ {ss} v. p .least (line-view m i n (m .start .0) _ line ss size .1 v);
-    }
+-- A thread's least steps along the line, as its writer asks for them.
+pub cost-along : (m : Model) (i : ThreadId) (v cost : ℕ) → 1 ≤ m .k → ViewCost m i (digits (m .g) (2 * m .k) v) cost
+    → LeastAlong (threadOf i m) i (m .k - 1) (m .start .0) (digits (m .g) (2 * suc (m .k - 1)) v) cost
+cost-along m i v cost k c =
+    view-cost m i (m .k - 1) (digits (m .g) (2 * suc (m .k - 1)) v) cost (length-digits (m .g) (2 * suc (m .k - 1)) v) .1
+    (rw (rounds (m .k) k) c)
 
 module _ (m : Model) {v x y : ℕ} (k : 1 ≤ m .k) (c : Chosen m v x y) where
   -- The line, as the threads' writers ask for it.
   pub line-low : v < m .g ^ (2 * suc (m .k - 1))
   line-low = rw (rounds (m .k) k) (c .low)
-
-  pub cost-first : LeastAlong (m .a) A (m .k - 1) (m .start .0) (digits (m .g) (2 * suc (m .k - 1)) v) x
-  cost-first =
-      along-cost m A (m .k - 1) (digits (m .g) (2 * suc (m .k - 1)) v) (length-digits (m .g) (2 * suc (m .k - 1)) v)
-      (rw (rounds (m .k) k) (c .a))
-
-  pub cost-second : LeastAlong (m .b) B (m .k - 1) (m .start .0) (digits (m .g) (2 * suc (m .k - 1)) v) y
-  cost-second =
-      along-cost m B (m .k - 1) (digits (m .g) (2 * suc (m .k - 1)) v) (length-digits (m .g) (2 * suc (m .k - 1)) v)
-      (rw (rounds (m .k) k) (c .b))
 
   -- Both threads' steps, merged, are the line's schedule.
   pub written : {s t a b old new : List ℕ}

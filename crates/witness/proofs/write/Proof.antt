@@ -4,7 +4,8 @@ use Prim.Native.Nat.{_*_}
 use native.Mathlib.Omega.{arith}
 use lib.Seq.{length-take-le}
 use borrow.Author.Needs.{needs}
-use Rattle.witness.proofs.Whole.{fronts-fit, line-low, cost-first, cost-second, written}
+use Rattle.model.specs.Walk.{A, B}
+use Rattle.witness.proofs.Whole.{fronts-fit, cost-along, line-low, written}
 use Rattle.witness.proofs.write.Statement.{statement}
 use Rattle.witness.proofs.write.Tie as tie
 
@@ -28,7 +29,7 @@ steps-requires c κs =
     let p = c .before .before .before .before .before .pre in
     let f = p .0 in (
       (f .g .0, f .g .1, omega (arith, f .k), f .start, line-low _ (f .k .0) (p .1 .0), f .a),
-      (cost-first _ (f .k .0) (p .1 .0), omega (arith, p .1 .0 .most), omega (arith, p .1 .0 .most)),
+      (cost-along _ A _ _ (f .k .0) (p .1 .0 .a), omega (arith, p .1 .0 .most), omega (arith, p .1 .0 .most)),
     )
 
 slice-aggregate-steps-2 : tie.Need-slice-aggregate-steps-2
@@ -39,7 +40,7 @@ steps-requires-2 c κs =
     let p = c .before .before .before .before .before .before .before .before .pre in
     let f = p .0 in (
       (f .g .0, f .g .1, omega (arith, f .k), f .start, line-low _ (f .k .0) (p .1 .0), f .b),
-      (cost-second _ (f .k .0) (p .1 .0), omega (arith, p .1 .0 .most), omega (arith, p .1 .0 .most)),
+      (cost-along _ B _ _ (f .k .0) (p .1 .0 .b), omega (arith, p .1 .0 .most), omega (arith, p .1 .0 .most)),
     )
 
 mul-end-a : tie.Need-mul-end-a
