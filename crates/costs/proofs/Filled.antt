@@ -15,9 +15,9 @@ use Rattle.model.specs.Lines.{digits}
 use Rattle.model.specs.Walk.{ThreadId}
 use Rattle.model.proofs.Positions.{length-digits, digits-states}
 use Rattle.summary.specs.Control.{TurnEnd, Inside, Summed}
-use Rattle.costs.specs.Cost.{Costs}
+use Rattle.costs.specs.Cost.{Costs, LeastAt}
 use Rattle.costs.specs.Ends.{turnOf, endsOf}
-use Rattle.costs.specs.Lanes.{lineLane, costOf, LeastAt, CostsTo}
+use Rattle.costs.specs.Lanes.{lineLane, costOf, CostsTo}
 use Rattle.costs.proofs.Along.{ends-inside, first-inside, last-inside}
 use Rattle.costs.proofs.Pairs.{pair-cost}
 use Rattle.costs.proofs.Values.{full-count}

@@ -62,11 +62,14 @@ RunAlong t i n g line ss =
 abbrev pub LeastAlong : Thread → ThreadId → ℕ → ℕ → List ℕ → ℕ → Type 0
 LeastAlong t i n g line cost = Least (RunAlong t i n g line) cost
 
+-- A cost is the capped least number of steps of a thread along the full line whose value is v.
+abbrev pub LeastAt : Thread → ThreadId → ℕ → ℕ → ℕ → ℕ → ℕ → Type 0
+LeastAt t i G n g v cost = LeastAlong t i n g (digits G (2 * suc n) v) cost
+
 -- A list of costs for a thread: at the value of each full line, the capped least number of steps of the thread along it.
 -- G states, n turn ends of the thread, so 2n + 2 states in a line; g is the state in which the run starts.
 abbrev pub Costs : Thread → ThreadId → ℕ → ℕ → ℕ → List ℕ → Type 0
-Costs t i G n g costs =
-    (v : ℕ) → v < G ^ (2 * suc n) → LeastAlong t i n g (digits G (2 * suc n) v) (getD costs v 0)
+Costs t i G n g costs = (v : ℕ) → v < G ^ (2 * suc n) → LeastAt t i G n g v (getD costs v 0)
 
 -- The lists of costs of both threads of a model: for K rounds each thread has K − 1 turn ends.
 abbrev pub BothCosts : Model → List ℕ → List ℕ → Type 0

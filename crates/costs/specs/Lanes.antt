@@ -9,7 +9,7 @@ use Rattle.model.specs.Lines.{digits}
 use Rattle.model.specs.Walk.{ThreadId}
 use Rattle.summary.specs.Cells.{plain, lane, laneOf, first, second}
 use Rattle.summary.specs.Control.{TurnEnd}
-use Rattle.costs.specs.Cost.{lineCost, LeastAlong}
+use Rattle.costs.specs.Cost.{lineCost, LeastAt}
 use Rattle.costs.specs.Ends.{endsOf}
 
 -- The cell of a stretch with so many turn ends inside, where l is the lane of the last of them.
@@ -38,10 +38,6 @@ pub record FirstLanes (i : ThreadId) (G : ℕ) (lanes : List ℕ) : Type 0 where
 -- The cost of the full line whose value is v, read off a table.
 abbrev pub costOf : ThreadId → List ℕ → ℕ → ℕ → ℕ → ℕ → ℕ → ℕ
 costOf i tab G n g γ v = lineCost i tab G n g γ (digits G (2 * suc n) v)
-
--- A cost is the capped least number of steps of a thread along the full line whose value is v.
-abbrev pub LeastAt : Thread → ThreadId → ℕ → ℕ → ℕ → ℕ → ℕ → Type 0
-LeastAt t i G n g v cost = LeastAlong t i n g (digits G (2 * suc n) v) cost
 
 -- With two turn ends: the costs of the lines whose first turn end has a lane below l.
 abbrev pub CostsTo : Thread → ThreadId → ℕ → ℕ → ℕ → List ℕ → Type 0

@@ -122,11 +122,15 @@ ReadsList s r wanted = Reads s (placed s (r .answer) (listed r)) (placeOf (r .an
 abbrev pub ReadsFront : List ℕ → Front → Read Model → Type 0
 ReadsFront s r wanted = Reads s (placed s (r .answer) (r .model)) (placeOf (r .answer)) wanted
 
+-- Of 64 rule places those from n on are zero.
+abbrev pub ZeroFrom : ℕ → List Rule → Type 0
+ZeroFrom n rs = drop n rs ≡ replicate (64 - n) zeroRule
+
 -- Of 64 places the first `count` are used, and the others are zero.
 pub record Padded (count : ℕ) (rs : List Rule) : Type 0 where
   pub low : count ≤ 64
   pub size : length rs ≡ 64
-  pub zeros : drop count rs ≡ replicate (64 - count) zeroRule
+  pub zeros : ZeroFrom count rs
 
 -- A thread whose places are all zero.
 abbrev pub zeroThread : Thread

@@ -5,18 +5,23 @@ use Prim.Native.Nat.{ℕ}
 use Rattle.model.specs.declared.Right.{Right}
 use Rattle.model.specs.declared.Right.the-variants.{Remove, Swap, Push}
 use Rattle.model.specs.declared.Symbol.{Symbol}
-use Rattle.summary.specs.Stretch.{pop, stay, Path, Stretch, Switches}
+use Rattle.summary.specs.Stretch.{pop, stay, Path, Stretch}
+
+-- Switches alone, which are all that an empty stack may do.
+pub data Idling {C : Type 0} (Switch : C → C → Type 0) : C → C → Type 0 where
+  none : {c : C} → Idling Switch c c
+  more : {c c₁ d : C} → Switch c c₁ → Idling Switch c₁ d → Idling Switch c d
 
 module _ {C S : Type 0} (Move : C → ℕ → S → Right → C → Type 0) (Switch : C → C → Type 0) where
   -- The whole stack as a list of stretches.
   pub data Over : C → List ℕ → List S → C → Type 0 where
-    bare : {c d : C} → Switches Move Switch c d → Over c [] [] d
+    bare : {c d : C} → Idling Switch c d → Over c [] [] d
     within : {c d : C} {γ : ℕ} {w : List ℕ} {ss : List S} → Stretch Move Switch c γ (stay d) ss [] → Over c (γ ∷ w) ss d
     gone : {c q d : C} {γ : ℕ} {w : List ℕ} {ss mid : List S}
         → Stretch Move Switch c γ (pop q) ss mid → Over q w mid d → Over c (γ ∷ w) ss d
 
   over-change : {c c₁ d : C} {w : List ℕ} {ss : List S} → Switch c c₁ → Over c₁ w ss d → Over c w ss d
-  over-change s (bare r) = bare (Switches.more s r)
+  over-change s (bare r) = bare (Idling.more s r)
   over-change s (within r) = within (Stretch.change s r)
   over-change s (gone r o) = gone (Stretch.change s r) o
 
@@ -33,7 +38,7 @@ module _ {C S : Type 0} (Move : C → ℕ → S → Right → C → Type 0) (Swi
 
   -- A run is stretches over its stack.
   pub overs : {c d : C} {w : List ℕ} {ss : List S} → Path Move Switch c w ss d → Over c w ss d
-  overs {w = []} Path.stop = bare Switches.none
+  overs {w = []} Path.stop = bare Idling.none
   overs {w = γ ∷ w} Path.stop = within Stretch.here
   overs (Path.change s p) = over-change s (overs p)
   overs (Path.move {x = Remove} m p) = gone (Stretch.remove m) (overs p)
@@ -58,9 +63,9 @@ module _ {C S : Type 0} (Move : C → ℕ → S → Right → C → Type 0) (Swi
   stays (Stretch.change s r) = Path.change s (stays r)
 
   -- Switches alone are a run over any stack.
-  pub idles : {c d : C} {w : List ℕ} → Switches Move Switch c d → Path Move Switch c w [] d
-  idles Switches.none = Path.stop
-  idles (Switches.more s r) = Path.change s (idles r)
+  pub idles : {c d : C} {w : List ℕ} → Idling Switch c d → Path Move Switch c w [] d
+  idles Idling.none = Path.stop
+  idles (Idling.more s r) = Path.change s (idles r)
 
   -- Stretches over the stack are a run.
   pub runs : {c d : C} {w : List ℕ} {ss : List S} → Over c w ss d → Path Move Switch c w ss d

@@ -6,6 +6,7 @@ use Prim.Native.Nat.{ℕ, _+_, _≤_, _<_, min}
 use lib.Dec.{leb, ltb}
 use lib.ListN.{length, getD}
 use Rattle.model.specs.Bits.{oneIf}
+use Rattle.summary.specs.Table.{capped}
 
 -- An edge: cell k is at most w more than cells a and b together.
 pub record Edge : Type 0 where
@@ -20,7 +21,7 @@ cell t k = getD t k 0
 
 -- A count after an edge: what its parts offer, capped at 4,096, where both are reached and that is less.
 unfoldable pub bestOf : ℕ → ℕ → ℕ → ℕ → ℕ
-bestOf w x y old = cond (leb x 4096 && leb y 4096) (min old (min (w + x + y) 4096)) old
+bestOf w x y old = cond (leb x 4096 && leb y 4096) (min old (capped (w + x + y))) old
 
 -- An edge holds: where both parts are reached, the cell is, by no more steps.
 pub record Holds (t : List ℕ) (e : Edge) : Type 0 where
@@ -31,7 +32,7 @@ pub record Holds (t : List ℕ) (e : Edge) : Type 0 where
 pub data From (S : Edge → Type 0) (start : ℕ → ℕ) : ℕ → ℕ → Type 0 where
   kept : (k : ℕ) → From S start k (start k)
   by : {x y : ℕ} (e : Edge) → S e → From S start (e .a) x → From S start (e .b) y → x ≤ 4096 → y ≤ 4096
-      → From S start (e .k) (min (e .w + x + y) 4096)
+      → From S start (e .k) (capped (e .w + x + y))
 
 -- The sum of a table.
 abbrev pub sum : List ℕ → ℕ

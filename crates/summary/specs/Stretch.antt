@@ -36,8 +36,3 @@ module _ {C S : Type 0} (Move : C → ℕ → S → Right → C → Type 0) (Swi
     above : {c c₁ q : C} {γ : ℕ} {s : S} {a b : Symbol} {ss rest : List S}
         → Move c γ s (Push a b) c₁ → Stretch c₁ (a .0) (stay q) ss rest → Stretch c γ (stay q) (s ∷ ss) rest
     change : {c c₁ : C} {γ : ℕ} {d : End C} {ss rest : List S} → Switch c c₁ → Stretch c₁ γ d ss rest → Stretch c γ d ss rest
-
-  -- Switches alone, which are all that an empty stack may do.
-  pub data Switches : C → C → Type 0 where
-    none : {c : C} → Switches c c
-    more : {c c₁ d : C} → Switch c c₁ → Switches c₁ d → Switches c d
