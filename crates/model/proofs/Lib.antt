@@ -1,5 +1,4 @@
 pub mod Alike
-pub mod Cases
 pub mod Checks
 pub mod Inside
 pub mod Positions

@@ -10,29 +10,17 @@ use lib.ListN.{length, take, replicate, length-append, length-replicate}
 use lib.Seq.{take-append-seam}
 use Rattle.model.specs.declared.Model.{Model}
 use Rattle.model.specs.Lines.{lastOf}
-use Rattle.model.specs.Runs.{Leads, Turns, stop, end, move, Marked}
+use Rattle.model.specs.Runs.{Leads, Turns, stop, end, move, Marked, TurnsBelow, Along}
 use Rattle.model.specs.Walk.{Stacks, startStacks, Config, Step, arrived, after, stepFrom, walk}
 use Rattle.model.proofs.Steps.{through, Stepped, steps, stepped}
 
--- All steps are made in turns below n.
-abbrev pub TurnsBelow : ℕ → List Step → Type 0
-TurnsBelow n [] = Unit {0}
-TurnsBelow n (s ∷ ss) = (s .turn < n) × TurnsBelow n ss
-
--- Those of a walk that is not refused are made in turns below 2K.
+-- The steps of a walk that is not refused are made in turns below 2K.
 walk-below : (m : Model) (ss : List Step) (c : Config) {d : Config} → walk m c ss ≡ arrived d → TurnsBelow (2 * m .k) ss
 unfolding walk
 walk-below m [] c e = tt
 walk-below m (s ∷ ss) c e =
     let gone = through (stepFrom m c s) (λ d. walk m d ss) e in
     (stepped (gone .1) .early, walk-below m ss (gone .0) (gone .2))
-
--- A run from the start along some line of n states, its last one g, with these steps.
-pub record Along (m : Model) (n : ℕ) (ss : List Step) (g : ℕ) : Type 0 where
-  pub line : List ℕ
-  pub size : length line ≡ n
-  pub turns : Turns m 0 (m .start .0) (startStacks m) line ss
-  pub last : lastOf (m .start .0) line ≡ g
 
 -- A run from turn t on along a line whose last state, `ends`, is that of turn n−1.
 record Run (m : Model) (t n g : ℕ) (σ : Stacks) (ss : List Step) (ends : ℕ) : Type 0 where

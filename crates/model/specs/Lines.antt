@@ -31,8 +31,8 @@ pub record Line (g k : ℕ) (line : List ℕ) : Type 0 where
 
 -- The last state of a line; of no states at all, the one given.
 abbrev pub lastOf : ℕ → List ℕ → ℕ
-lastOf g [] = g
-lastOf g (x ∷ xs) = lastOf x xs
+lastOf q [] = q
+lastOf q (x ∷ xs) = lastOf x xs
 
 -- A line read as a number in base g, first state highest.
 unfoldable pub value : ℕ → List ℕ → ℕ

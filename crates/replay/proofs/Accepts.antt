@@ -18,17 +18,7 @@ use Rattle.model.proofs.Stores.{length-bytes, steps-bytes, bytes-steps}
 use Rattle.model.proofs.Tests.{tests, passed}
 use Rattle.replay.specs.declared.Replayed.{Replayed}
 use Rattle.replay.specs.declared.Replayed.the-variants.{Accepted, Refused}
-use Rattle.replay.specs.Replay.{sizeFits, answer, unlessFault, replayOf}
-
--- Bytes are a legal schedule of at most 4,095 steps of a valid model, whose last shared state is g; `reached` says whether
--- that is the target.
-pub record Legally (m : Model) (bs : List ℕ) (g : ℕ) (reached : Bool) : Type 0 where
-  pub valid : Valid m
-  pub steps : List Step
-  pub bytes : bs ≡ bytesOf steps
-  pub most : length steps ≤ 4095
-  pub leads : Leads m steps g
-  pub target : reached ≡ eqb g (m .target .0)
+use Rattle.replay.specs.Replay.{sizeFits, answer, unlessFault, replayOf, Legally}
 
 -- The bytes of at most 4,095 steps fit in size.
 fits : (ss : List Step) → length ss ≤ 4095 → T (sizeFits (bytesOf ss))
@@ -75,7 +65,7 @@ accepts m bs g reached = (to, from)
         record {
           valid = f .0;
           steps = stepsOf bs;
-          bytes = sym same;
+          written = sym same;
           most = omega (arith, length-bytes (stepsOf bs), ap length same, z .1);
           leads = record { last = w .0; walked = w .1; ends = w .2 };
           target = w .3;
@@ -85,7 +75,7 @@ accepts m bs g reached = (to, from)
     from l =
         rw (
           l .valid,
-          l .bytes,
+          l .written,
           passed (sizeFits (bytesOf (l .steps))) (fits (l .steps) (l .most)),
           steps-bytes (l .steps),
           l .leads .walked,
