@@ -10,16 +10,17 @@ use lib.ListN.{length, getD}
 use Rattle.model.specs.declared.Model.{Model}
 use Rattle.model.specs.declared.Shared.{Shared}
 use Rattle.model.specs.Lines.{powers, lineFrom, digits}
+use Rattle.model.specs.Results.{refused, accepted, firstOf}
 use Rattle.model.specs.Rules.{applies}
 use Rattle.model.specs.Schedules.{stepsOf}
-use Rattle.model.specs.Valid.{Valid, firstOf, headFault, symbolFault, rightFault, ruleFault, threadFault, faultOf}
+use Rattle.model.specs.Valid.{Valid, headFault, symbolFault, rightFault, ruleFault, threadFault, faultOf}
 use Rattle.model.specs.Verdict.{found, Judged}
 use Rattle.model.specs.Walk.{walk, stepFrom, fire, turnFits}
 use Rattle.model.proofs.Ranges.{valid-fits}
 use Rattle.model.proofs.Table.{every, at}
 use Rattle.model.proofs.Tests.{passed, both, equal, tests}
 use Rattle.model.proofs.Stores.{length-bytes}
-use Rattle.record.specs.Reader.{Read, refused, value, readOf, front, head, byte, ranged, field, right, rule, ruleList, rules}
+use Rattle.record.specs.Reader.{Read, readOf, front, head, byte, ranged, field, right, rule, ruleList, rules}
 use Rattle.replay.specs.declared.Replayed.{Replayed}
 use Rattle.replay.specs.declared.Replayed.the-variants as replayed
 use Rattle.replay.specs.Replay.{replayOf, sizeFits}
@@ -55,8 +56,8 @@ comes : Read Model → Answer → Bool
 comes (refused k) (Refused n) = eqb k n
 comes (refused k) (Clear t) = false
 comes (refused k) (Found n schedule t) = false
-comes (value m []) a = eqb (faultOf m) 0 && judges m a
-comes (value m (b ∷ rest)) a = false
+comes (accepted (m, [])) a = eqb (faultOf m) 0 && judges m a
+comes (accepted (m, b ∷ rest)) a = false
 
 -- The test of a case.
 holds : Case → Bool
@@ -69,18 +70,18 @@ lines-right m limit set c ungiven h = tt
 lines-right m limit set c (given store) h = drawn-lines m limit set c store h
 
 -- The replay.
-accepted : (target : Shared) (r : Replayed) → T (reaches target r) → r ≡ replayed.Accepted target true
-accepted target (replayed.Accepted shared reached) h =
+reached-target : (target : Shared) (r : Replayed) → T (reaches target r) → r ≡ replayed.Accepted target true
+reached-target target (replayed.Accepted shared reached) h =
     let w = both (eqb (shared .0) (target .0)) reached .0 h in
     let same : shared ≡ target = ap {B = Shared} (λ n. record { 0 = n }) (equal (shared .0) (target .0) .0 (w .0)) in
     rw (same, passed reached (w .1))
-accepted target (replayed.Refused n) h = absurd h
+reached-target target (replayed.Refused n) h = absurd h
 
 -- The schedule: what replay accepts is one, with two bytes a step.
 scheduled : (m : Model) (n : ℕ) (schedule : List ℕ) → length schedule ≡ 2 * n → T (reaches (m .target) (replayOf m schedule))
     → Scheduled m n schedule
 scheduled m n schedule e h =
-    let same = accepted (m .target) (replayOf m schedule) h in
+    let same = reached-target (m .target) (replayOf m schedule) h in
     let l = accepts m schedule (m .target) true .0 same in (
       record {
         steps = l .steps;
@@ -92,7 +93,7 @@ scheduled m n schedule e h =
     )
 
 -- The verdict, and all else that is claimed of a model that was read.
-judged : (bytes : List ℕ) (m : Model) → readOf bytes ≡ value m [] → Valid m → (a : Answer) → T (judges m a) → ClaimsOf bytes a
+judged : (bytes : List ℕ) (m : Model) → readOf bytes ≡ accepted (m, []) → Valid m → (a : Answer) → T (judges m a) → ClaimsOf bytes a
 unfolding judges
 judged bytes m e v (Refused n) h = absurd h
 judged bytes m e v (Clear t) h =
@@ -116,9 +117,9 @@ unfolding comes
 come bytes (refused k) e (Refused n) h = e ∙ ap refused (equal k n .0 h)
 come bytes (refused k) e (Clear t) h = absurd h
 come bytes (refused k) e (Found n schedule t) h = absurd h
-come bytes (value m []) e a h =
+come bytes (accepted (m, [])) e a h =
     let w = both (eqb (faultOf m) 0) (judges m a) .0 h in judged bytes m e (equal (faultOf m) 0 .0 (w .0)) a (w .1)
-come bytes (value m (b ∷ rest)) e a h = absurd h
+come bytes (accepted (m, b ∷ rest)) e a h = absurd h
 
 -- A case whose test passes has its claims.
 claimed : (c : Case) → T (holds c) → Claims c

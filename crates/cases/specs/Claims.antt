@@ -6,13 +6,14 @@ use mathlib.Core.Path.{_≡_}
 use Prim.Native.Nat.{ℕ}
 use lib.ListN.{length, replicate}
 use Rattle.model.specs.declared.Model.{Model}
+use Rattle.model.specs.Results.{refused, accepted}
 use Rattle.model.specs.Runs.{Reaches}
 use Rattle.model.specs.Schedules.{bytesOf, Shown}
 use Rattle.model.specs.Valid.{Valid}
 use Rattle.model.specs.Verdict.{clear, found, Judged}
 use Rattle.reach.specs.Answer.{LineTable}
 use Rattle.reach.specs.Bits.{bytesFor}
-use Rattle.record.specs.Reader.{refused, value, readOf}
+use Rattle.record.specs.Reader.{readOf}
 use Rattle.replay.specs.declared.Replayed.the-variants.{Accepted}
 use Rattle.replay.specs.Replay.{replayOf}
 
@@ -35,7 +36,7 @@ pub record Case : Type 0 where
 -- A record is accepted, and something holds of its model.
 pub record Accepts (bytes : List ℕ) (Holds : Model → Type 0) : Type 0 where
   pub model : Model
-  pub read : readOf bytes ≡ value model []
+  pub read : readOf bytes ≡ accepted (model, [])
   pub valid : Valid model
   pub holds : Holds model
 

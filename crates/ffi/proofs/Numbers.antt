@@ -9,10 +9,11 @@ use borrow.Author.Tests.{lt-ltb, le-ltb, ne-eqb}
 use lib.Dec.{T, leb, ltb, eqb}
 use Rattle.model.specs.declared.Model.{Model}
 use Rattle.model.specs.Fits.{Fits}
+use Rattle.model.specs.Results.{refused, accepted, andThen, need, unless, refuse, firstOf}
 use Rattle.model.specs.Rules.{applies}
 use Rattle.model.specs.Schedules.{stepsOf}
-use Rattle.model.specs.Valid.{Valid, refuse, firstOf}
-use Rattle.model.specs.Walk.{Step, Config, Walked, refused, arrived, need, andThen, turnFits, after, fire, stepFrom, walk, ownerOf, threadOf, stackOf, startOf}
+use Rattle.model.specs.Valid.{Valid}
+use Rattle.model.specs.Walk.{Step, Config, Walked, turnFits, after, fire, stepFrom, walk, ownerOf, threadOf, stackOf, startOf}
 use Rattle.model.proofs.Inside.{applies-iff, fits-of}
 use Rattle.model.proofs.Ranges.{valid-fits}
 use Rattle.reach.specs.Bits.{bytesFor}
@@ -61,7 +62,7 @@ replayedOf n =
 -- A walk is refused by 9 or 10, or ends in a state below g.
 abbrev Ends : ℕ → Walked → Type 0
 Ends g (refused n) = n ≤ 10
-Ends g (arrived c) = c .shared < g
+Ends g (accepted c) = c .shared < g
 
 module _ {m : Model} (f : Fits m) where
   fired : (c : Config) (s : Step) (w : List ℕ) → Ends (m .g) (fire m c s w)
@@ -69,7 +70,7 @@ module _ {m : Model} (f : Fits m) where
   fired c s [] = omega arith
   fired c s (top ∷ w) = go (applies (threadOf (ownerOf (s .turn)) m) (s .rule) (c .shared) top) (λ t. applies-iff _ _ _ _ .0 t .listed)
     where
-      go : (b : Bool) → (T b → s .rule < threadOf (ownerOf (s .turn)) m .count) → Ends (m .g) (need 10 b (arrived (after m c s w)))
+      go : (b : Bool) → (T b → s .rule < threadOf (ownerOf (s .turn)) m .count) → Ends (m .g) (need 10 b (accepted (after m c s w)))
       go true h = fits-of f (ownerOf (s .turn)) .rules (s .rule) (h tt) .next
       go false h = omega arith
 
@@ -84,7 +85,7 @@ module _ {m : Model} (f : Fits m) where
   onward : (x : Walked) (next : Config → Walked) → Ends (m .g) x → ((d : Config) → d .shared < m .g → Ends (m .g) (next d))
       → Ends (m .g) (andThen x next)
   onward (refused n) next e later = e
-  onward (arrived d) next e later = later d e
+  onward (accepted d) next e later = later d e
 
   walks : (ss : List Step) (c : Config) → c .shared < m .g → Ends (m .g) (walk m c ss)
   unfolding walk
@@ -100,14 +101,14 @@ state-told x false h = rw (le-ltb (16 + x) 16 (omega arith), lt-ltb (16 + x) 24 
 
 -- Its number tells what replay answers for a valid model.
 pub replay-told : (m : Model) (bytes : List ℕ) → Valid m → replayedOf (replayedNumber (replayOf m bytes)) ≡ replayOf m bytes
-unfolding replayOf
+unfolding replayOf firstOf
 replay-told m bytes v = rw v (go (sizeFits bytes) (walk m (startOf m) (stepsOf bytes)) (walks f (stepsOf bytes) (startOf m) (f .start)))
   where
     f : Fits m
     f = valid-fits m .0 v
 
     go : (b : Bool) (w : Walked) → Ends (m .g) w
-        → replayedOf (replayedNumber (cond b (answer m w) (replayed.Refused 8))) ≡ cond b (answer m w) (replayed.Refused 8)
+        → replayedOf (replayedNumber (answer m (unless (firstOf (refuse 8 b ∷ [])) w))) ≡ answer m (unless (firstOf (refuse 8 b ∷ [])) w)
     go false w e = refl
     go true (refused n) e = rw (lt-ltb n 16 (omega arith))
-    go true (arrived c) e = state-told (c .shared) (eqb (c .shared) (m .target .0)) (omega (arith, f .g))
+    go true (accepted c) e = state-told (c .shared) (eqb (c .shared) (m .target .0)) (omega (arith, f .g))

@@ -8,21 +8,22 @@ use native.Mathlib.Omega.{arith}
 use lib.Dec.{ltb, eqb}
 use Rattle.model.specs.declared.Model.{Model}
 use Rattle.model.specs.Bits.{bit}
-use Rattle.record.specs.Reader.{Read, refused, value, andThen, need, inRange, byte, ranged, field, ruleMap, right, rule, ruleList, rules, head, front, ended, readOf}
+use Rattle.model.specs.Results.{refused, accepted, need}
+use Rattle.record.specs.Reader.{Read, andRead, inRange, byte, ranged, field, ruleMap, right, rule, ruleList, rules, head, front, ended, readOf}
 
 -- A number that refuses a record.
 abbrev Low : ℕ → Type 0
 Low n = (1 ≤ n) × (n ≤ 6)
 
 -- A value is no refusal.
-never : {A P : Type 0} {a : A} {rest : List ℕ} {n : ℕ} → value a rest ≡ refused n → P
+never : {A P : Type 0} {a : A} {rest : List ℕ} {n : ℕ} → _≡_ {A = Read A} (accepted (a, rest)) (refused n) → P
 never {A} {P} {a} {rest} {n} e = let z : _≡_ {A = ℕ} 0 1 = cc in absurd (omega arith)
 
 -- The refusal of two parts is that of the first, or that of the second where the first has a value.
-part : {A B : Type 0} (x : Read A) (next : A → List ℕ → Read B) {n : ℕ} → andThen x next ≡ refused n → (x ≡ refused n → Low n)
+part : {A B : Type 0} (x : Read A) (next : A → List ℕ → Read B) {n : ℕ} → andRead x next ≡ refused n → (x ≡ refused n → Low n)
     → ((a : A) (rest : List ℕ) → next a rest ≡ refused n → Low n) → Low n
 part (refused k) next {n} e own later = let same : k ≡ n = cc in own (ap refused same)
-part (value a rest) next e own later = later a rest e
+part (accepted (a, rest)) next e own later = later a rest e
 
 -- The refusal behind a test is the test's, or one that comes later.
 test : {A : Type 0} (k : ℕ) (b : Bool) {r : Read A} {n : ℕ} → 0 < k → k < 7 → need k b r ≡ refused n → (r ≡ refused n → Low n)

@@ -4,7 +4,8 @@ use mathlib.Core.Path.{_≡_}
 use Prim.Native.Nat.{ℕ}
 use lib.ListN.{length}
 use Rattle.model.specs.declared.Model.{Model}
-use Rattle.record.specs.Reader.{Read, refused, value, readOf}
+use Rattle.model.specs.Results.{refused, accepted}
+use Rattle.record.specs.Reader.{Read, readOf}
 use Rattle.record.specs.Written.{writtenOf, storeOf}
 use Rattle.reach.specs.Answer.{outcomeOf, Leaves}
 use Rattle.replay.specs.Replay.{replayOf}
@@ -15,7 +16,7 @@ use Rattle.ffi.specs.Numbers.{writtenNumber, linesNumber, judgedNumber, 
 -- What holds by what reading comes to: one thing of a refusal's number, or another of the model.
 pub data Either (Refusal : ℕ → Type 0) (Call : Model → Type 0) : Read Model → Type 0 where
   refusal : {n : ℕ} → Refusal n → Either Refusal Call (refused n)
-  accepted : {m : Model} {rest : List ℕ} → Call m → Either Refusal Call (value m rest)
+  call : {m : Model} {rest : List ℕ} → Call m → Either Refusal Call (accepted (m, rest))
 
 -- Reading: 0 for a whole record, else the refusal's number.
 abbrev pub Reads : List ℕ → ℕ → Type 0

@@ -7,7 +7,8 @@ use native.Mathlib.Omega.{arith}
 use borrow.Author.Tests.{le-leb, lt-leb}
 use lib.Dec.{leb}
 use Rattle.model.specs.declared.Model.{Model}
-use Rattle.model.specs.Valid.{refuse, firstOf, faultOf}
+use Rattle.model.specs.Results.{refuse, firstOf}
+use Rattle.model.specs.Valid.{faultOf}
 use Rattle.model.proofs.Checks.{stops, passes, closes}
 use Rattle.reach.specs.Answer.{lineRefusal, LineTable}
 use Rattle.reach.specs.Bits.{bytesFor}

@@ -11,9 +11,10 @@ use lib.ListN.{length, take, getD}
 use Rattle.model.specs.declared.Model.{Model}
 use Rattle.model.specs.Fits.{Fits}
 use Rattle.model.specs.Lines.{digits}
+use Rattle.model.specs.Results.{refuse}
 use Rattle.model.specs.Runs.{Reaches, Turns}
 use Rattle.model.specs.Schedules.{Stored}
-use Rattle.model.specs.Valid.{refuse, Valid}
+use Rattle.model.specs.Valid.{Valid}
 use Rattle.model.specs.Walk.{A, B, startStacks}
 use Rattle.model.proofs.Ranges.{valid-fits}
 use Rattle.model.proofs.Stores.{stored-front}

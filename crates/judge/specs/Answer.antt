@@ -5,9 +5,10 @@ use mathlib.Core.Path.{_≡_}
 use Prim.Native.Nat.{ℕ, _<_}
 use lib.Dec.{leb}
 use Rattle.model.specs.declared.Model.{Model}
+use Rattle.model.specs.Results.{refuse, firstOf}
 use Rattle.model.specs.Runs.{Reaches}
 use Rattle.model.specs.Schedules.{Stored}
-use Rattle.model.specs.Valid.{refuse, firstOf, faultOf}
+use Rattle.model.specs.Valid.{faultOf}
 use Rattle.model.specs.Verdict.{clear, long, found, Judged}
 use Rattle.reach.specs.Answer.{LineTable}
 use Rattle.reach.specs.Bits.{bytesFor}

@@ -1,12 +1,16 @@
 -- Checks made in order: a fault is the answer, and a check that finds none leaves the answer to those after it.
+use mathlib.Core.Bool.{Bool, true, false}
 use mathlib.Core.List.{List, [], _∷_, map}
+use mathlib.Core.Logic.{_↔_}
 use mathlib.Core.Path.{_≡_, refl, sym, _∙_}
 use Prim.Native.Nat.{ℕ, zero, suc, _+_, _<_, _≤_}
 use native.Mathlib.Nat.{le-antisymm}
 use native.Mathlib.Numerals.{add-one}
+use native.Mathlib.Omega.{arith}
+use lib.Dec.{T}
 use lib.ListN.{length, getD, length-map}
 use lib.Seq.{slice, slice-cons, slice-empty}
-use Rattle.model.specs.Valid.{firstOf}
+use Rattle.model.specs.Results.{refuse, firstOf}
 
 -- A fault that is found is the answer, whatever is checked after it.
 pub stops : {found n : ℕ} (ns : List ℕ) → found ≡ n → (found ≡ 0 → ⊥) → found ≡ firstOf (n ∷ ns)
@@ -30,6 +34,13 @@ closes {r} {n} e = rw e (go n)
     go : (k : ℕ) → k ≡ firstOf (k ∷ [])
     go zero = refl
     go (suc k) = refl
+
+-- Of a check and then a test, nothing is refused exactly if the check finds nothing and the test passes.
+pub both-pass : (fault n : ℕ) (test : Bool) → (firstOf (fault ∷ refuse (suc n) test ∷ []) ≡ 0) ↔ ((fault ≡ 0) × T test)
+unfolding firstOf
+both-pass zero n true = (λ h. (refl, tt), λ h. refl)
+both-pass zero n false = (λ h. absurd (omega arith), λ h. absurd (h .1))
+both-pass (suc fault) n test = (λ h. absurd (omega arith), λ h. absurd (omega (arith, h .0)))
 
 -- The fault of the elements from place i up to n.
 abbrev pub faultFrom : {A : Type 0} → (A → ℕ) → List A → ℕ → ℕ → ℕ

@@ -3,6 +3,7 @@ pub mod Checks
 pub mod Inside
 pub mod Positions
 pub mod Ranges
+pub mod Results
 pub mod Steps
 pub mod Stores
 pub mod Table

@@ -15,9 +15,10 @@ use Rattle.model.specs.declared.Right.the-variants.{Remove, Swap, Push}
 use Rattle.model.specs.declared.Rule.{Rule}
 use Rattle.model.specs.declared.Thread.{Thread}
 use Rattle.model.specs.Fits.{RightFits, RuleFits, Fits}
+use Rattle.model.specs.Results.{refuse, firstOf}
 use Rattle.model.specs.Rules.{ruleAt, zeroRule}
 use Rattle.model.proofs.Tests.{tests}
-use Rattle.model.specs.Valid.{refuse, firstOf, headFault, symbolFault, rightFault, ruleFault, threadFault, faultOf, Valid}
+use Rattle.model.specs.Valid.{headFault, symbolFault, rightFault, ruleFault, threadFault, faultOf, Valid}
 
 -- No fault of checks in order is no fault of the first and none of the others.
 none : (n : ℕ) (ns : List ℕ) → (firstOf (n ∷ ns) ≡ 0) ↔ ((n ≡ 0) × (firstOf ns ≡ 0))

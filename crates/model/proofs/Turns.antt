@@ -10,12 +10,14 @@ use lib.ListN.{length, take, replicate, length-append, length-replicate}
 use lib.Seq.{take-append-seam}
 use Rattle.model.specs.declared.Model.{Model}
 use Rattle.model.specs.Lines.{lastOf}
+use Rattle.model.specs.Results.{accepted}
 use Rattle.model.specs.Runs.{Leads, Turns, stop, end, move, Marked, TurnsBelow, Along}
-use Rattle.model.specs.Walk.{Stacks, startStacks, Config, Step, arrived, after, stepFrom, walk}
-use Rattle.model.proofs.Steps.{through, Stepped, steps, stepped}
+use Rattle.model.specs.Walk.{Stacks, startStacks, Config, Step, after, stepFrom, walk}
+use Rattle.model.proofs.Results.{through}
+use Rattle.model.proofs.Steps.{Stepped, steps, stepped}
 
 -- The steps of a walk that is not refused are made in turns below 2K.
-walk-below : (m : Model) (ss : List Step) (c : Config) {d : Config} → walk m c ss ≡ arrived d → TurnsBelow (2 * m .k) ss
+walk-below : (m : Model) (ss : List Step) (c : Config) {d : Config} → walk m c ss ≡ accepted d → TurnsBelow (2 * m .k) ss
 unfolding walk
 walk-below m [] c e = tt
 walk-below m (s ∷ ss) c e =
@@ -42,7 +44,7 @@ module _ {m : Model} where
   -- The walk makes the steps of a run, and ends at the line's last state.
   walks : {t g : ℕ} {σ : Stacks} {line : List ℕ} {ss : List Step}
       → Turns m t g σ line ss → (u : ℕ) → u ≤ t → t + length line ≤ 2 * m .k
-      → (c : Config) × (walk m (at u g σ) ss ≡ arrived c) × (c .shared ≡ lastOf g line)
+      → (c : Config) × (walk m (at u g σ) ss ≡ accepted c) × (c .shared ≡ lastOf g line)
   unfolding walk
   walks {g = g} {σ = σ} stop u h k = (at u g σ, refl, refl)
   walks (end r) u h k = walks r u (omega arith) (omega arith)
@@ -89,7 +91,7 @@ module _ {m : Model} where
 
   -- A walk whose steps are made before turn n is a run along a line that ends with turn n−1.
   runs : (ss : List Step) (t n g : ℕ) (σ : Stacks) {c : Config}
-      → walk m (at t g σ) ss ≡ arrived c → TurnsBelow n ss → t < n
+      → walk m (at t g σ) ss ≡ accepted c → TurnsBelow n ss → t < n
       → Run m t n g σ ss (c .shared)
   unfolding walk
   runs [] t n g σ {c} w b h =
@@ -99,8 +101,8 @@ module _ {m : Model} where
       let gone = through (stepFrom m (at t g σ) s) (λ d. walk m d ss) w in
       let d : Config = gone .0 in
       let k = stepped (gone .1) in
-      let rest : walk m (at (s .turn) (d .shared) (d .stacks)) ss ≡ arrived c =
-      subst (λ u. walk m (at u (d .shared) (d .stacks)) ss ≡ arrived c) (ap (λ (e : Config). e .turn) (k .come)) (gone .2) in
+      let rest : walk m (at (s .turn) (d .shared) (d .stacks)) ss ≡ accepted c =
+      subst (λ u. walk m (at u (d .shared) (d .stacks)) ss ≡ accepted c) (ap (λ (e : Config). e .turn) (k .come)) (gone .2) in
       later (k .later) (first k (b .0) (runs ss (s .turn) n (d .shared) (d .stacks) rest (b .1) (b .0)))
 
   -- A schedule with all turns below n is legal exactly if it is the steps of a run along a line of n states, and then

@@ -1,6 +1,7 @@
 pub mod Bits
 pub mod Fits
 pub mod Lines
+pub mod Results
 pub mod Rules
 pub mod Runs
 pub mod Schedules

@@ -6,15 +6,16 @@ use lib.Dec.{T}
 use lib.ListN.{length}
 use Rattle.model.specs.declared.Model.{Model}
 use Rattle.model.specs.Lines.{lastOf}
+use Rattle.model.specs.Results.{accepted}
 use Rattle.model.specs.Rules.{applies, put}
 use Rattle.model.specs.Walk.{ownerOf, threadOf, ruleOf, Stacks, stackOf, withStack, startStacks, Config, startOf}
-use Rattle.model.specs.Walk.{Step, arrived, walk}
+use Rattle.model.specs.Walk.{Step, walk}
 
 -- A schedule leads to a shared state: the walk from the start refuses no step of it and ends there. A schedule that leads
 -- anywhere is legal: it is a run of at most K rounds written down. Turns that no step names are empty.
 pub record Leads (m : Model) (ss : List Step) (shared : ℕ) : Type 0 where
   pub last : Config
-  pub walked : walk m (startOf m) ss ≡ arrived last
+  pub walked : walk m (startOf m) ss ≡ accepted last
   pub ends : last .shared ≡ shared
 
 -- A schedule reaches the target if its run's last shared state is the target.

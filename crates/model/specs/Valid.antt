@@ -1,8 +1,8 @@
 -- Which models are valid, which refusal number a model handed in as values gets, and when two models are the same.
-use mathlib.Core.Bool.{Bool, true, false, _&&_}
+use mathlib.Core.Bool.{Bool, _&&_}
 use mathlib.Core.List.{List, [], _∷_, map}
 use mathlib.Core.Path.{_≡_}
-use Prim.Native.Nat.{ℕ, zero, suc, _<_}
+use Prim.Native.Nat.{ℕ, _<_}
 use lib.Dec.{leb, ltb}
 use lib.ListN.{take}
 use Rattle.model.specs.declared.Model.{Model}
@@ -11,18 +11,8 @@ use Rattle.model.specs.declared.Right.the-variants.{Remove, Swap, Push}
 use Rattle.model.specs.declared.Rule.{Rule}
 use Rattle.model.specs.declared.Symbol.{Symbol}
 use Rattle.model.specs.declared.Thread.{Thread}
+use Rattle.model.specs.Results.{refuse, firstOf}
 use Rattle.model.specs.Rules.{ruleAt}
-
--- Refusal n where a test fails; 0 stands for no fault.
-abbrev pub refuse : ℕ → Bool → ℕ
-refuse n true = 0
-refuse n false = n
-
--- The first fault of checks made in order.
-unfoldable pub firstOf : List ℕ → ℕ
-firstOf [] = 0
-firstOf (zero ∷ ns) = firstOf ns
-firstOf (suc n ∷ ns) = suc n
 
 -- The head fields in the record's bit order: G, K, start, target, the first symbols of A and of B.
 unfoldable pub headFault : Model → ℕ
@@ -57,6 +47,11 @@ threadFault g t =
 -- The refusal number of a model handed in as values: its head by 3, then A's rules by 4, then B's by 4; 0 for none.
 unfoldable pub faultOf : Model → ℕ
 faultOf m = firstOf (headFault m ∷ threadFault (m .g) (m .a) ∷ threadFault (m .g) (m .b) ∷ [])
+
+-- The refusal of a call that fills a store: the model's fault, then 7 where a store has no room for what it must hold; 0
+-- for none.
+unfoldable pub storeRefusal : Model → Bool → ℕ
+storeRefusal m room = firstOf (faultOf m ∷ refuse 7 room ∷ [])
 
 -- A model is valid if the checks find no fault in it.
 abbrev pub Valid : Model → Type 0

@@ -1,11 +1,12 @@
 -- Schedules, and the walk of one from the start, as replay makes it: the first bad step is refused by 9 or 10.
-use mathlib.Core.Bool.{Bool, true, false, _&&_}
+use mathlib.Core.Bool.{Bool, _&&_}
 use mathlib.Core.List.{List, [], _∷_}
 use Prim.Native.Nat.{ℕ, zero, suc, _*_}
 use lib.Dec.{leb, ltb}
 use Rattle.model.specs.declared.Model.{Model}
 use Rattle.model.specs.declared.Rule.{Rule}
 use Rattle.model.specs.declared.Thread.{Thread}
+use Rattle.model.specs.Results.{Result, refused, accepted, need, andThen}
 use Rattle.model.specs.Rules.{ruleAt, applies, put}
 
 -- The two threads.
@@ -66,19 +67,8 @@ pub record Step : Type 0 where
   pub rule : ℕ
 
 -- What a walk comes to: the number of a refusal, or a configuration.
-pub data Walked : Type 0 where
-  refused : ℕ → Walked
-  arrived : Config → Walked
-
--- Refusal n where a test fails.
-abbrev pub need : ℕ → Bool → Walked → Walked
-need n true w = w
-need n false w = refused n
-
--- What follows a walk that was not refused.
-abbrev pub andThen : Walked → (Config → Walked) → Walked
-andThen (refused n) next = refused n
-andThen (arrived c) next = next c
+abbrev pub Walked : Type 0
+Walked = Result Config
 
 -- A turn number is at most 2K−1 and not below the one before.
 unfoldable pub turnFits : Model → Config → Step → Bool
@@ -96,7 +86,7 @@ after m c s w =
 -- A step, given the stack of its thread: with an empty stack there is none, and its rule must apply (10).
 unfoldable pub fire : Model → Config → Step → List ℕ → Walked
 fire m c s [] = refused 10
-fire m c s (top ∷ w) = need 10 (applies (threadOf (ownerOf (s .turn)) m) (s .rule) (c .shared) top) (arrived (after m c s w))
+fire m c s (top ∷ w) = need 10 (applies (threadOf (ownerOf (s .turn)) m) (s .rule) (c .shared) top) (accepted (after m c s w))
 
 -- One step of the walk: the turn number first (9), then the rule of that turn's thread (10).
 unfoldable pub stepFrom : Model → Config → Step → Walked
@@ -104,5 +94,5 @@ stepFrom m c s = need 9 (turnFits m c s) (fire m c s (stackOf (ownerOf (s .turn)
 
 -- The walk of a list of steps from a configuration; its first bad step gives the refusal.
 unfoldable pub walk : Model → Config → List Step → Walked
-walk m c [] = arrived c
+walk m c [] = accepted c
 walk m c (s ∷ ss) = andThen (stepFrom m c s) (λ d. walk m d ss)

@@ -9,7 +9,8 @@ use lib.Dec.{T, leb, leb→le}
 use Rattle.model.specs.declared.Model.{Model}
 use Rattle.model.specs.Fits.{Fits}
 use Rattle.model.specs.Lines.{tableBits}
-use Rattle.model.specs.Valid.{refuse, firstOf, faultOf}
+use Rattle.model.specs.Results.{refuse, firstOf}
+use Rattle.model.specs.Valid.{faultOf}
 use Rattle.model.proofs.Checks.{stops, passes, closes}
 use Rattle.model.proofs.Ranges.{valid-fits}
 use Rattle.reach.specs.declared.Outcome.the-variants.{Done, Refused}

@@ -5,8 +5,9 @@ use Prim.Native.Nat.{ℕ, zero, suc}
 use lib.Dec.{leb}
 use Rattle.model.specs.declared.Model.{Model}
 use Rattle.model.specs.Lines.{lineAt}
+use Rattle.model.specs.Results.{refuse, firstOf}
 use Rattle.model.specs.Runs.{Marked}
-use Rattle.model.specs.Valid.{refuse, firstOf, faultOf}
+use Rattle.model.specs.Valid.{faultOf}
 use Rattle.reach.specs.declared.Outcome.{Outcome}
 use Rattle.reach.specs.declared.Outcome.the-variants.{Done, Refused}
 use Rattle.reach.specs.Bits.{bytesFor, Drawn}

@@ -7,11 +7,12 @@ use native.Mathlib.Omega.{arith}
 use lib.ListN.{length, take, drop, length-drop}
 use lib.Seq.{take-all}
 use Rattle.model.specs.declared.Model.{Model}
+use Rattle.model.specs.Results.{refused, accepted}
 use Rattle.record.specs.declared.Front.{Front}
 use Rattle.record.specs.declared.Place.{Place}
 use Rattle.record.specs.declared.Place.the-variants.{At, Refused}
 use Rattle.record.specs.declared.RuleList.{RuleList}
-use Rattle.record.specs.Reader.{refused, value, front, rules}
+use Rattle.record.specs.Reader.{front, rules}
 use Rattle.record.specs.Held.{ReadsList, ReadsFront, listed, placed, placeOf, readingOf, zeroModel}
 use Rattle.record.proofs.Parts.{refuses}
 
@@ -23,7 +24,7 @@ unfolding readingOf
 refused-front e h = rw (e, h) (refuses refl, refl)
 
 -- A model that is read is the one that is answered.
-pub read-front : {s : List ℕ} {m : Model} {n : ℕ} → n ≤ length s → front s ≡ value m (drop n s)
+pub read-front : {s : List ℕ} {m : Model} {n : ℕ} → n ≤ length s → front s ≡ accepted (m, drop n s)
     → ReadsFront s (record { answer = At n; model = m }) (front s) × (m ≡ readingOf (front s) .model)
 unfolding readingOf
 read-front k h = rw h (record { same = refl; within = k }, refl)

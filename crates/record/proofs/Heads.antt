@@ -8,10 +8,12 @@ use lib.Dec.{T, eqb}
 use Rattle.model.specs.declared.Model.{Model}
 use Rattle.model.specs.Bits.{bit}
 use Rattle.model.specs.Fits.{Fits}
+use Rattle.model.specs.Results.{accepted}
+use Rattle.model.proofs.Results.{checked}
 use Rattle.model.proofs.Tests.{passed}
-use Rattle.record.specs.Reader.{value, byte, ranged, field, Head, head}
+use Rattle.record.specs.Reader.{byte, ranged, field, Head, head}
 use Rattle.writer.specs.Writer.{fieldOf, weight, mapOf}
-use Rattle.record.proofs.OneField.{checked, parted, carried, byte-forth}
+use Rattle.record.proofs.OneField.{parted, carried, byte-forth}
 use Rattle.record.proofs.OneField.{ranged-back, ranged-forth, field-back, FieldRead, field-forth}
 use Rattle.record.proofs.Maps.{HeadBits, head-bits}
 
@@ -40,7 +42,7 @@ unfolding mapOf weight
 map-bits m = head-bits (eqb (m .g) 4) (eqb (m .k) 2) (eqb (m .start .0) 0) (eqb (m .a .first .0) 0) (eqb (m .b .first .0) 0) (eqb (m .a .count) 0) (eqb (m .b .count) 0)
 
 -- A head that is written is read.
-pub head-back : (m : Model) → Fits m → (rest : List ℕ) → head (headWith (headOf m) rest) ≡ value (headOf m) rest
+pub head-back : (m : Model) → Fits m → (rest : List ℕ) → head (headWith (headOf m) rest) ≡ accepted (headOf m, rest)
 unfolding head byte headWith headOf
 head-back m f rest =
     let b = map-bits m in
@@ -100,7 +102,7 @@ head-made {map} e t g k s d a b =
     }
 
 -- A head that is read was written so.
-pub head-forth : (bs : List ℕ) {h : Head} {rest : List ℕ} → head bs ≡ value h rest → HeadRead bs h rest
+pub head-forth : (bs : List ℕ) {h : Head} {rest : List ℕ} → head bs ≡ accepted (h, rest) → HeadRead bs h rest
 unfolding head
 head-forth bs e =
     parted (byte bs) _ e λ map m₁ b₁ e₁.

@@ -1,17 +1,15 @@
 -- A list of rules read one by one into 64 places: those read so far stand before those still to come.
-use mathlib.Core.Bool.{Bool, true, false, not, _&&_}
 use mathlib.Core.List.{List, [], _∷_, _++_, append-assoc, append-nil}
 use mathlib.Core.Path.{_≡_, refl, sym, _∙_}
 use Prim.Native.Nat.{ℕ, suc, _+_, _-_, _≤_, _<_}
 use native.Mathlib.Numerals.{add-one}
 use native.Mathlib.Omega.{arith}
-use borrow.Author.Tests.{ltb-true}
-use lib.Dec.{leb, ltb, eqb}
 use lib.ListN.{length, take, drop, set, replicate, getD, length-set, take-append-drop}
 use lib.Seq.{length-take-le, take-suc-set, drop-set-lt, drop-cons}
 use Rattle.model.specs.declared.Rule.{Rule}
+use Rattle.model.specs.Results.{refused, accepted}
 use Rattle.model.specs.Rules.{zeroRule}
-use Rattle.record.specs.Reader.{Read, refused, value, andThen, need, byte, ranged, field, rule, ruleList}
+use Rattle.record.specs.Reader.{Read, andRead, rule, ruleList}
 use Rattle.record.specs.Held.{Padded}
 
 -- As many rules are listed as are counted ..
@@ -42,16 +40,16 @@ padded-more {i} {rs} r p h =
 -- Rules before a list that is read.
 abbrev pub prepend : List Rule → Read (List Rule) → Read (List Rule)
 prepend p (refused n) = refused n
-prepend p (value rs rest) = value (p ++ rs) rest
+prepend p (accepted (rs, rest)) = accepted (p ++ rs, rest)
 
 prepend-nil : (x : Read (List Rule)) → x ≡ prepend [] x
 prepend-nil (refused n) = refl
-prepend-nil (value rs rest) = refl
+prepend-nil (accepted (rs, rest)) = refl
 
 prepend-cons : (p : List Rule) (r : Rule) (x : Read (List Rule))
-    → prepend p (andThen x (λ rs rest. value (r ∷ rs) rest)) ≡ prepend (p ++ (r ∷ [])) x
+    → prepend p (andRead x (λ rs rest. accepted (r ∷ rs, rest))) ≡ prepend (p ++ (r ∷ [])) x
 prepend-cons p r (refused n) = refl
-prepend-cons p r (value rs rest) = rw append-assoc
+prepend-cons p r (accepted (rs, rest)) = rw append-assoc
 
 -- Of n rules that are wanted i are read, and the others come from the bytes left.
 pub record Progress (wanted : Read (List Rule)) (g n i : ℕ) (rs : List Rule) (left : List ℕ) : Type 0 where
@@ -74,7 +72,7 @@ starts g n left h e =
 module _ {wanted : Read (List Rule)} {g n i : ℕ} {rs : List Rule} {left : List ℕ}
     (p : Progress wanted g n i rs left) where
   -- The next rule is read ..
-  pub steps : {r : Rule} {rest : List ℕ} → i < n → rule g left ≡ value r rest
+  pub steps : {r : Rule} {rest : List ℕ} → i < n → rule g left ≡ accepted (r, rest)
       → Progress wanted g n (i + 1) (set rs i r) rest
   unfolding ruleList
   steps {r} {rest} h e =
@@ -96,31 +94,6 @@ module _ {wanted : Read (List Rule)} {g n i : ℕ} {rs : List Rule} {left : List
   breaks h e = let cut : n - i ≡ suc (n - suc i) = omega arith in sym (rw (cut, e) at (p .same))
 
   -- .. until none is left.
-  pub stops : n ≤ i → value (take i rs) left ≡ wanted
+  pub stops : n ≤ i → accepted (take i rs, left) ≡ wanted
   unfolding ruleList
   stops h = let none-left : n - i ≡ 0 = omega arith in sym (rw (none-left, append-nil) at (p .same))
-
--- Two tests passed, and the byte that they let through.
-let-through : (t : Bool) (u : ℕ → Bool) (n x : ℕ) (xs : List ℕ) {b : ℕ} {rest : List ℕ}
-    → andThen (need n t (value x xs)) (λ b rest. need 5 (u b) (value b rest)) ≡ value b rest → (t ≡ true) × (x ≡ b)
-let-through false u n x xs e = absurd (let z : _≡_ {A = ℕ} 0 1 = cc in omega arith)
-let-through true u n x xs e = go (u x) e
-  where
-    go : (v : Bool) {b : ℕ} {rest : List ℕ} → need 5 v (value x xs) ≡ value b rest → (true ≡ true) × (x ≡ b)
-    go true e = (refl, cc)
-    go false e = absurd (let z : _≡_ {A = ℕ} 0 1 = cc in omega arith)
-
-second-true : (t u : Bool) → (t && u) ≡ true → u ≡ true
-second-true true u e = e
-second-true false u e = absurd (let z : _≡_ {A = ℕ} 0 1 = cc in omega arith)
-
--- A field that is read is below its limit, where its default is.
-pub below : (present : Bool) (n low limit default : ℕ) (bs : List ℕ) {b : ℕ} {rest : List ℕ}
-    → default < limit → field present n low limit default bs ≡ value b rest → b < limit
-unfolding field ranged byte
-below false n low limit default bs {b} h e = let same : default ≡ b = cc in omega arith
-below true n low limit default [] h e = absurd (let z : _≡_ {A = ℕ} 0 1 = cc in omega arith)
-below true n low limit default (x ∷ xs) {b} h e =
-    let k = let-through (leb low x && ltb x limit) (λ b. not (eqb b default)) n x xs e in
-    let under : x < limit = ltb-true x limit (second-true (leb low x) (ltb x limit) (k .0)) in
-    rw (k .1) at under

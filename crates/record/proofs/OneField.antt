@@ -2,52 +2,45 @@
 -- field's bit stands exactly if the value is not the default.
 use mathlib.Core.Bool.{Bool, true, false, not}
 use mathlib.Core.List.{List, [], _∷_, _++_}
-use mathlib.Core.Path.{_≡_, refl, sym, subst₂}
+use mathlib.Core.Path.{_≡_, refl, sym, ap, subst₂}
 use Prim.Native.Nat.{ℕ, suc, _≤_, _<_}
 use native.Mathlib.Decide.{ℕ-discrete}
 use native.Mathlib.Omega.{arith}
 use lib.Dec.{T, leb, ltb, eqb}
 use borrow.Author.Tests.{le-leb, lt-ltb, eq-eqb, ne-eqb}
+use Rattle.model.proofs.Results.{apart, accepted-same, checked, through}
 use Rattle.model.proofs.Tests.{both, order}
-use Rattle.record.specs.Reader.{Read, refused, value, andThen, need, inRange, byte, ranged, field}
+use Rattle.model.specs.Results.{accepted}
+use Rattle.record.specs.Reader.{Read, andRead, inRange, byte, ranged, field}
 use Rattle.writer.specs.Writer.{fieldOf}
-
--- A refusal is no value.
-pub apart : {A X : Type 0} {n : ℕ} {a : A} {rest : List ℕ} → refused n ≡ value a rest → X
-apart {A} {X} {n} {a} {rest} e = let z : _≡_ {A = ℕ} 0 1 = cc in absurd (omega arith)
-
--- A value that was read past a check has passed it.
-pub checked : {A P : Type 0} (n : ℕ) (test : Bool) {r : Read A} {a : A} {rest : List ℕ}
-    → need n test r ≡ value a rest → (T test → r ≡ value a rest → P) → P
-checked n true e k = k tt e
-checked n false e k = apart e
 
 -- What was read in two parts was read in each.
 pub parted : {A B P : Type 0} (r : Read A) (next : A → List ℕ → Read B) {b : B} {rest : List ℕ}
-    → andThen r next ≡ value b rest → ((a : A) (mid : List ℕ) → r ≡ value a mid → next a mid ≡ value b rest → P) → P
-parted (refused n) next e k = apart e
-parted (value a mid) next e k = k a mid refl e
+    → andRead r next ≡ accepted (b, rest) → ((a : A) (mid : List ℕ) → r ≡ accepted (a, mid) → next a mid ≡ accepted (b, rest) → P) → P
+parted r next e k = let t = through r (λ x. next (x .0) (x .1)) e in k (t .0 .0) (t .0 .1) (t .1) (t .2)
 
 -- Two readings that agree have one value and leave one rest.
-pub value-same : {A : Type 0} {a b : A} {r s : List ℕ} → value a r ≡ value b s → (a ≡ b) × (r ≡ s)
-value-same {A} {a} {b} {r} {s} e = ((cc), (cc))
+pub value-same : {A : Type 0} {a b : A} {r s : List ℕ} → _≡_ {A = Read A} (accepted (a, r)) (accepted (b, s))
+    → (a ≡ b) × (r ≡ s)
+value-same e = let z = accepted-same e in (ap (λ x. x .0) z, ap (λ x. x .1) z)
 
 -- What holds of one reading holds of the other.
-pub carried : {A : Type 0} (P : A → List ℕ → Type 0) {a b : A} {r s : List ℕ} → value a r ≡ value b s → P a r → P b s
+pub carried : {A : Type 0} (P : A → List ℕ → Type 0) {a b : A} {r s : List ℕ}
+    → _≡_ {A = Read A} (accepted (a, r)) (accepted (b, s)) → P a r → P b s
 carried P e p = let z = value-same e in subst₂ P (z .0) (z .1) p
 
 -- One byte was read.
-pub byte-forth : (bs : List ℕ) {b : ℕ} {rest : List ℕ} → byte bs ≡ value b rest → bs ≡ b ∷ rest
+pub byte-forth : (bs : List ℕ) {b : ℕ} {rest : List ℕ} → byte bs ≡ accepted (b, rest) → bs ≡ b ∷ rest
 unfolding byte
 byte-forth [] e = apart e
-byte-forth (x ∷ xs) {b} {rest} e = cc
+byte-forth (x ∷ xs) {b} {rest} e = let z = value-same e in rw (z .0, z .1)
 
 -- A byte in range.
-pub ranged-back : (n : ℕ) {low limit b : ℕ} (rest : List ℕ) → low ≤ b → b < limit → ranged n low limit (b ∷ rest) ≡ value b rest
+pub ranged-back : (n : ℕ) {low limit b : ℕ} (rest : List ℕ) → low ≤ b → b < limit → ranged n low limit (b ∷ rest) ≡ accepted (b, rest)
 unfolding ranged byte
 ranged-back n rest h k = rw (le-leb _ _ h, lt-ltb _ _ k)
 
-pub ranged-forth : (n low limit : ℕ) (bs : List ℕ) {b : ℕ} {rest : List ℕ} → ranged n low limit bs ≡ value b rest
+pub ranged-forth : (n low limit : ℕ) (bs : List ℕ) {b : ℕ} {rest : List ℕ} → ranged n low limit bs ≡ accepted (b, rest)
     → (bs ≡ b ∷ rest) × (low ≤ b) × (b < limit)
 unfolding ranged
 ranged-forth n low limit bs {b} {rest} e =
@@ -69,7 +62,7 @@ is-default default v y n = elim (ℕ-discrete v default) [ yes e ↦ y (eq-eqb v
 -- A field that is written is read.
 pub field-back : (n default v : ℕ) {low limit : ℕ} (rest : List ℕ) {present : Bool} → present ≡ not (eqb v default)
     → low ≤ v → v < limit
-    → field present n low limit default (fieldOf default v ++ rest) ≡ value v rest
+    → field present n low limit default (fieldOf default v ++ rest) ≡ accepted (v, rest)
 unfolding field fieldOf
 field-back n default v rest p h k =
     is-default default v (λ t e. rw (p, t, e)) (λ t. rw (p, t) (rw (ranged-back n rest h k, t)))
@@ -84,7 +77,7 @@ pub record FieldRead (present : Bool) (low limit default v : ℕ) (bs rest : Lis
 -- A field that is read was written so, where its default is in range.
 pub field-forth : (present : Bool) (n low limit default : ℕ) (bs : List ℕ) {v : ℕ} {rest : List ℕ} → low ≤ default
     → default < limit
-    → field present n low limit default bs ≡ value v rest → FieldRead present low limit default v bs rest
+    → field present n low limit default bs ≡ accepted (v, rest) → FieldRead present low limit default v bs rest
 unfolding field fieldOf
 field-forth false n low limit default bs {v} {rest} h k e =
     let z = value-same e in

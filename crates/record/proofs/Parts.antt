@@ -3,8 +3,9 @@ use mathlib.Core.List.{List}
 use mathlib.Core.Path.{_≡_, sym}
 use Prim.Native.Nat.{ℕ, _≤_, zero-le}
 use lib.ListN.{length}
+use Rattle.model.specs.Results.{refused}
 use Rattle.record.specs.declared.Part.{Part}
-use Rattle.record.specs.Reader.{Read, refused}
+use Rattle.record.specs.Reader.{Read}
 use Rattle.record.specs.Held.{Reads, ReadsPart, partOf, partPlace}
 
 -- What was wanted of a field whose answer is known ..

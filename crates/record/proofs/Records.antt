@@ -11,15 +11,17 @@ use Rattle.model.specs.declared.Model.{Model}
 use Rattle.model.specs.declared.Rule.{Rule}
 use Rattle.model.specs.declared.Thread.{Thread}
 use Rattle.model.specs.Bits.{bit}
+use Rattle.model.specs.Results.{refused, accepted}
 use Rattle.model.specs.Rules.{zeroRule}
 use Rattle.model.specs.Valid.{Valid, SameThread, Same}
 use Rattle.model.proofs.Ranges.{valid-fits}
+use Rattle.model.proofs.Results.{apart}
 use Rattle.record.specs.declared.Reading.{Reading}
 use Rattle.record.specs.Kept.{Unused, Kept, Keeps}
 use Rattle.record.specs.Held.{readingOf}
-use Rattle.record.specs.Reader.{Read, refused, value, rules, Head, head, threadOf, modelOf, front, ended, readOf}
+use Rattle.record.specs.Reader.{Read, rules, Head, head, threadOf, modelOf, front, ended, readOf}
 use Rattle.writer.specs.Writer.{weight, rulesOf, mapOf, headBytes, recordOf}
-use Rattle.record.proofs.OneField.{apart, parted, carried, value-same}
+use Rattle.record.proofs.OneField.{parted, carried, value-same}
 use Rattle.record.proofs.Maps.{HeadBits, head-sum}
 use Rattle.record.proofs.ThreadRules.{rules-back, RulesRead, rules-forth, thread-fits, rules-bytes}
 use Rattle.record.proofs.Heads.{headOf, headWith, map-bits, head-back, HeadRead, head-forth}
@@ -40,7 +42,7 @@ unfolding recordOf headBytes headWith headOf
 record-bytes m rest = simp append-assoc
 
 -- A record that is written is read.
-pub front-back : (m : Model) → Valid m → Places m → (rest : List ℕ) → front (recordOf m ++ rest) ≡ value (tidy m) rest
+pub front-back : (m : Model) → Valid m → Places m → (rest : List ℕ) → front (recordOf m ++ rest) ≡ accepted (tidy m, rest)
 unfolding front headOf tidy
 front-back m v p rest =
     let f = valid-fits m .0 v in
@@ -91,7 +93,7 @@ front-made {bs} {m₁} {m₂} {rest} {h} {ra} {rb} hd a b =
     }
 
 -- A record that is read was written so.
-pub front-forth : (bs : List ℕ) {m : Model} {rest : List ℕ} → front bs ≡ value m rest → FrontRead bs m rest
+pub front-forth : (bs : List ℕ) {m : Model} {rest : List ℕ} → front bs ≡ accepted (m, rest) → FrontRead bs m rest
 unfolding front
 front-forth bs e =
     parted (head bs) _ e λ h m₁ b₁ e₁.
@@ -100,12 +102,12 @@ front-forth bs e =
     carried (FrontRead bs) e₃ (front-made (head-forth bs b₁) (rules-forth (bit 6 (h .map)) (h .g) m₁ b₂) (rules-forth (bit 7 (h .map)) (h .g) m₂ b₃))
 
 -- Nothing is left of a whole record.
-whole : {m n : Model} (bs rest : List ℕ) → ended n bs ≡ value m rest → (bs ≡ []) × (n ≡ m)
+whole : {m n : Model} (bs rest : List ℕ) → ended n bs ≡ accepted (m, rest) → (bs ≡ []) × (n ≡ m)
 whole [] rest e = (refl, value-same e .0)
 whole (b ∷ bs) rest e = apart e
 
 -- Every accepted record is rewritten byte for byte.
-pub read-kept : (bs : List ℕ) {m : Model} {rest : List ℕ} → readOf bs ≡ value m rest → getD bs 0 0 < 256 → Kept bs m
+pub read-kept : (bs : List ℕ) {m : Model} {rest : List ℕ} → readOf bs ≡ accepted (m, rest) → getD bs 0 0 < 256 → Kept bs m
 unfolding readOf
 read-kept bs e k =
     parted (front bs) ended e λ n mid b f.
@@ -132,11 +134,11 @@ tidy-same t n k =
     }
 
 -- Every valid model survives writing and reading, as the same model with its unused places zero.
-pub written-read : (m : Model) → Valid m → Places m → (readOf (recordOf m) ≡ value (tidy m) []) × Same m (tidy m)
+pub written-read : (m : Model) → Valid m → Places m → (readOf (recordOf m) ≡ accepted (tidy m, [])) × Same m (tidy m)
 unfolding readOf tidy headOf
 written-read m v p =
     let f = valid-fits m .0 v in
-    let e : front (recordOf m) ≡ value (tidy m) [] = rw append-nil at (front-back m v p []) in (
+    let e : front (recordOf m) ≡ accepted (tidy m, []) = rw append-nil at (front-back m v p []) in (
       rw e,
       record {
         g = refl;
@@ -155,7 +157,7 @@ keeps bs k = go (readOf bs) refl
   where
     go : (r : Read Model) → readOf bs ≡ r → Keeps (readingOf r) bs
     go (refused n) e = tt
-    go (value m rest) e = read-kept bs e k
+    go (accepted (m, rest)) e = read-kept bs e k
 
 -- An answer that is the reading of bytes keeps what it accepts.
 pub kept-too : (bs : List ℕ) {r : Reading} → getD bs 0 0 < 256 → r ≡ readingOf (readOf bs)

@@ -14,22 +14,24 @@ use Rattle.model.specs.declared.Right.the-variants.{Remove, Swap, Push}
 use Rattle.model.specs.declared.Rule.{Rule}
 use Rattle.model.specs.Bits.{bit}
 use Rattle.model.specs.Fits.{RightFits, RuleFits}
+use Rattle.model.specs.Results.{accepted}
+use Rattle.model.proofs.Results.{checked}
 use Rattle.model.proofs.Tests.{order}
-use Rattle.record.specs.Reader.{value, byte, field, ruleMap, symbol, right, rule, ruleList}
+use Rattle.record.specs.Reader.{byte, field, ruleMap, symbol, right, rule, ruleList}
 use Rattle.writer.specs.Writer.{fieldOf, weight, symbolsOf, symbolBits, ruleOf, ruleListOf}
-use Rattle.record.proofs.OneField.{checked, parted, carried, byte-forth}
+use Rattle.record.proofs.OneField.{parted, carried, byte-forth}
 use Rattle.record.proofs.OneField.{ranged-back, ranged-forth, field-back, FieldRead, field-forth}
 use Rattle.record.proofs.Maps.{newBits, rule-sum, hasFirst, hasSecond, rule-bits}
 
 -- A symbol both ways.
-symbol-back : (b : ℕ) (rest : List ℕ) → b ≤ 15 → symbol (b ∷ rest) ≡ value b rest
+symbol-back : (b : ℕ) (rest : List ℕ) → b ≤ 15 → symbol (b ∷ rest) ≡ accepted (b, rest)
 symbol-back b rest h = ranged-back 4 rest zero-le (omega arith)
 
-symbol-forth : (bs : List ℕ) {b : ℕ} {rest : List ℕ} → symbol bs ≡ value b rest → (bs ≡ b ∷ rest) × (b ≤ 15)
+symbol-forth : (bs : List ℕ) {b : ℕ} {rest : List ℕ} → symbol bs ≡ accepted (b, rest) → (bs ≡ b ∷ rest) × (b ≤ 15)
 symbol-forth bs e = let r = ranged-forth 4 0 16 bs e in (r .0, omega arith)
 
 -- The new symbols of a rule that are written are read.
-right-back : (x : Right) → RightFits x → (rest : List ℕ) → right (hasFirst x) (hasSecond x) (symbolsOf x ++ rest) ≡ value x rest
+right-back : (x : Right) → RightFits x → (rest : List ℕ) → right (hasFirst x) (hasSecond x) (symbolsOf x ++ rest) ≡ accepted (x, rest)
 unfolding right
 right-back Remove f rest = refl
 right-back (Swap a) f rest = rw (symbol-back (a .0) rest f)
@@ -42,7 +44,7 @@ record RightRead (first second : Bool) (x : Right) (bs rest : List ℕ) : Type 0
   fits : RightFits x
 
 -- New symbols that are read were written so.
-right-forth : (first second : Bool) (bs : List ℕ) {x : Right} {rest : List ℕ} → right first second bs ≡ value x rest
+right-forth : (first second : Bool) (bs : List ℕ) {x : Right} {rest : List ℕ} → right first second bs ≡ accepted (x, rest)
     → RightRead first second x bs rest
 unfolding right
 right-forth false second bs e =
@@ -63,7 +65,7 @@ halves : (a b : ℕ) → b ≤ 15 → ((a * 16 + b) / 16 ≡ a) × ((a * 16 + b)
 halves a b h = (omega arith, omega arith)
 
 -- A rule that is written is read.
-pub rule-back : (g : ℕ) (r : Rule) → RuleFits g r → (rest : List ℕ) → rule g (ruleOf r ++ rest) ≡ value r rest
+pub rule-back : (g : ℕ) (r : Rule) → RuleFits g r → (rest : List ℕ) → rule g (ruleOf r ++ rest) ≡ accepted (r, rest)
 unfolding rule ruleOf weight byte
 rule-back g r f rest =
     let h = halves (r .before .0) (r .symbol .0) (f .top) in
@@ -99,7 +101,7 @@ rule-made {g} {map} {pair} {next} {new} {bs} {m₁} {m₂} {m₃} {rest} e t p l
     }
 
 -- A rule that is read was written so.
-rule-forth : (g : ℕ) (bs : List ℕ) {r : Rule} {rest : List ℕ} → rule g bs ≡ value r rest → RuleRead g bs r rest
+rule-forth : (g : ℕ) (bs : List ℕ) {r : Rule} {rest : List ℕ} → rule g bs ≡ accepted (r, rest) → RuleRead g bs r rest
 unfolding rule
 rule-forth g bs {r} {rest} e =
     parted (byte bs) _ e λ map m₁ b₁ e₁.
@@ -120,7 +122,7 @@ RulesFit g (r ∷ rs) = RuleFits g r × RulesFit g rs
 
 -- A list of rules that is written is read.
 pub list-back : (g : ℕ) (rs : List Rule) → RulesFit g rs → (rest : List ℕ)
-    → ruleList g (length rs) (ruleListOf rs ++ rest) ≡ value rs rest
+    → ruleList g (length rs) (ruleListOf rs ++ rest) ≡ accepted (rs, rest)
 unfolding ruleList ruleListOf
 list-back g [] f rest = refl
 list-back g (r ∷ rs) f rest =
@@ -133,7 +135,7 @@ pub record ListRead (g n : ℕ) (bs : List ℕ) (rs : List Rule) (rest : List �
   pub fits : RulesFit g rs
 
 -- A list of rules that is read was written so.
-pub list-forth : (g n : ℕ) (bs : List ℕ) {rs : List Rule} {rest : List ℕ} → ruleList g n bs ≡ value rs rest
+pub list-forth : (g n : ℕ) (bs : List ℕ) {rs : List Rule} {rest : List ℕ} → ruleList g n bs ≡ accepted (rs, rest)
     → ListRead g n bs rs rest
 unfolding ruleList ruleListOf
 list-forth g zero bs e = carried (ListRead g 0 bs) e (record { bytes = refl; size = refl; fits = tt })

@@ -7,6 +7,7 @@ use Rattle.model.specs.declared.Model.{Model}
 use Rattle.model.specs.declared.Right.{Right}
 use Rattle.model.specs.declared.Rule.{Rule}
 use Rattle.model.specs.declared.Thread.{Thread}
+use Rattle.model.specs.Results.{refused, accepted}
 use Rattle.model.specs.Rules.{zeroRule}
 use Rattle.record.specs.declared.Answer.the-variants.{Accepted}
 use Rattle.record.specs.declared.Answer.the-variants as answer
@@ -24,11 +25,11 @@ use Rattle.record.specs.declared.RightPart.the-variants as rightPart
 use Rattle.record.specs.declared.RuleList.{RuleList}
 use Rattle.record.specs.declared.RulePart.{RulePart}
 use Rattle.record.specs.declared.RulePart.the-variants as rulePart
-use Rattle.record.specs.Reader.{Read, refused, value, Head}
+use Rattle.record.specs.Reader.{Read, Head}
 
 -- A field.
 abbrev pub partOf : List ℕ → Part → Read ℕ
-partOf s (part.Read c) = value (c .byte) (drop (c .at) s)
+partOf s (part.Read c) = accepted (c .byte, drop (c .at) s)
 partOf s (part.Refused n) = refused n
 
 -- The place after a field, 0 where it was refused.
@@ -38,7 +39,7 @@ partPlace (part.Refused n) = 0
 
 -- The new symbols of a rule.
 abbrev pub rightPartOf : List ℕ → RightPart → Read Right
-rightPartOf s (rightPart.Read x) = value (x .right) (drop (x .at) s)
+rightPartOf s (rightPart.Read x) = accepted (x .right, drop (x .at) s)
 rightPartOf s (rightPart.Refused n) = refused n
 
 -- The place after the new symbols.
@@ -48,7 +49,7 @@ rightPlace (rightPart.Refused n) = 0
 
 -- A rule.
 abbrev pub rulePartOf : List ℕ → RulePart → Read Rule
-rulePartOf s (rulePart.Read x) = value (x .rule) (drop (x .at) s)
+rulePartOf s (rulePart.Read x) = accepted (x .rule, drop (x .at) s)
 rulePartOf s (rulePart.Refused n) = refused n
 
 -- The place after a rule.
@@ -71,7 +72,7 @@ fieldsOf f =
 
 -- A head.
 abbrev pub headPartOf : List ℕ → HeadPart → Read Head
-headPartOf s (headPart.Read f) = value (fieldsOf f) (drop (f .at) s)
+headPartOf s (headPart.Read f) = accepted (fieldsOf f, drop (f .at) s)
 headPartOf s (headPart.Refused n) = refused n
 
 -- The place after a head.
@@ -81,7 +82,7 @@ headPlace (headPart.Refused n) = 0
 
 -- A value that stands beside its place.
 abbrev pub placed : {A : Type 0} → List ℕ → Place → A → Read A
-placed s (place.At n) a = value a (drop n s)
+placed s (place.At n) a = accepted (a, drop n s)
 placed s (place.Refused n) a = refused n
 
 -- How many bytes were taken, 0 where they were refused.
@@ -151,4 +152,4 @@ zeroModel =
 -- What is answered: the model that was read, or the refusal beside the zero model.
 unfoldable pub readingOf : Read Model → Reading
 readingOf (refused n) = record { answer = answer.Refused n; model = zeroModel }
-readingOf (value m rest) = record { answer = Accepted; model = m }
+readingOf (accepted (m, rest)) = record { answer = Accepted; model = m }

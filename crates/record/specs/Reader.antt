@@ -10,22 +10,16 @@ use Rattle.model.specs.declared.Right.the-variants.{Remove, Swap, Push}
 use Rattle.model.specs.declared.Rule.{Rule}
 use Rattle.model.specs.declared.Thread.{Thread}
 use Rattle.model.specs.Bits.{bit}
+use Rattle.model.specs.Results.{Result, refused, accepted, andThen, need}
 use Rattle.model.specs.Rules.{zeroRule}
 
--- Reading at the front of a list of bytes: a refusal's number, or a value and the bytes left.
-pub data Read (A : Type 0) : Type 0 where
-  refused : ℕ → Read A
-  value : A → List ℕ → Read A
+-- Reading at the front of a list of bytes comes to a value and the bytes left.
+abbrev pub Read : Type 0 → Type 0
+Read A = Result (A × List ℕ)
 
 -- What is read after a part that was not refused.
-abbrev pub andThen : {A B : Type 0} → Read A → (A → List ℕ → Read B) → Read B
-andThen (refused n) next = refused n
-andThen (value a rest) next = next a rest
-
--- Refusal n where a test fails.
-abbrev pub need : {A : Type 0} → ℕ → Bool → Read A → Read A
-need n true r = r
-need n false r = refused n
+abbrev pub andRead : {A B : Type 0} → Read A → (A → List ℕ → Read B) → Read B
+andRead r next = andThen r (λ x. next (x .0) (x .1))
 
 -- A number is at least `low` and below `limit`.
 abbrev pub inRange : ℕ → ℕ → ℕ → Bool
@@ -34,17 +28,17 @@ inRange low limit b = leb low b && ltb b limit
 -- One byte; 1 where the record ends before it.
 unfoldable pub byte : List ℕ → Read ℕ
 byte [] = refused 1
-byte (b ∷ rest) = value b rest
+byte (b ∷ rest) = accepted (b, rest)
 
 -- A byte in range, or refusal n.
 unfoldable pub ranged : ℕ → ℕ → ℕ → List ℕ → Read ℕ
-ranged n low limit bs = andThen (byte bs) (λ b rest. need n (inRange low limit b) (value b rest))
+ranged n low limit bs = andRead (byte bs) (λ b rest. need n (inRange low limit b) (accepted (b, rest)))
 
 -- A field with a bit in the map: absent, it has its default; else a byte in range that does not say what absence would (5).
 unfoldable pub field : Bool → ℕ → ℕ → ℕ → ℕ → List ℕ → Read ℕ
-field false n low limit default bs = value default bs
+field false n low limit default bs = accepted (default, bs)
 field true n low limit default bs =
-    andThen (ranged n low limit bs) (λ b rest. need 5 (not (eqb b default)) (value b rest))
+    andRead (ranged n low limit bs) (λ b rest. need 5 (not (eqb b default)) (accepted (b, rest)))
 
 -- A rule's map has bits 0 to 2 alone, and bit 2 only beside bit 1.
 abbrev pub ruleMap : ℕ → Bool
@@ -56,39 +50,40 @@ symbol bs = ranged 4 0 16 bs
 
 -- The new symbols of a rule, by whether there is a first and a second.
 unfoldable pub right : Bool → Bool → List ℕ → Read Right
-right false second bs = value Remove bs
-right true false bs = andThen (symbol bs) (λ a rest. value (Swap (record { 0 = a })) rest)
+right false second bs = accepted (Remove, bs)
+right true false bs = andRead (symbol bs) (λ a rest. accepted (Swap (record { 0 = a }), rest))
 right true true bs =
-    andThen (symbol bs) (λ a rest.
-    andThen (symbol rest) (λ b rest. value (Push (record { 0 = a }) (record { 0 = b })) rest))
+    andRead (symbol bs) (λ a rest.
+    andRead (symbol rest) (λ b rest. accepted (Push (record { 0 = a }) (record { 0 = b }), rest)))
 
 -- A rule: its map; its before state and symbol in the halves of one byte; the after state, by default the before state;
 -- the new symbols.
 unfoldable pub rule : ℕ → List ℕ → Read Rule
 rule g bs =
-    andThen (byte bs) (λ map rest.
+    andRead (byte bs) (λ map rest.
     need 4 (ruleMap map)
-    (andThen (byte rest) (λ pair rest.
+    (andRead (byte rest) (λ pair rest.
     need 4 (ltb (pair / 16) g)
-    (andThen (field (bit 0 map) 4 0 g (pair / 16) rest) (λ next rest.
-    andThen (right (bit 1 map) (bit 2 map) rest) (λ new rest.
-    value
-    (record {
-      before = record { 0 = pair / 16 };
-      symbol = record { 0 = pair % 16 };
-      after = record { 0 = next };
-      right = new;
-    })
-    rest))))))
+    (andRead (field (bit 0 map) 4 0 g (pair / 16) rest) (λ next rest.
+    andRead (right (bit 1 map) (bit 2 map) rest) (λ new rest.
+    accepted (
+      record {
+        before = record { 0 = pair / 16 };
+        symbol = record { 0 = pair % 16 };
+        after = record { 0 = next };
+        right = new;
+      },
+      rest,
+    )))))))
 
 -- So many rules, one after another.
 unfoldable pub ruleList : ℕ → ℕ → List ℕ → Read (List Rule)
-ruleList g zero bs = value [] bs
-ruleList g (suc n) bs = andThen (rule g bs) (λ r rest. andThen (ruleList g n rest) (λ rs rest. value (r ∷ rs) rest))
+ruleList g zero bs = accepted ([], bs)
+ruleList g (suc n) bs = andRead (rule g bs) (λ r rest. andRead (ruleList g n rest) (λ rs rest. accepted (r ∷ rs, rest)))
 
 -- The rules of a thread: a count of at most 64 (4) that is not 0 (5), and then the rules; none where the bit is absent.
 unfoldable pub rules : Bool → ℕ → List ℕ → Read (List Rule)
-rules present g bs = andThen (field present 4 0 65 0 bs) (λ n rest. ruleList g n rest)
+rules present g bs = andRead (field present 4 0 65 0 bs) (λ n rest. ruleList g n rest)
 
 -- The head fields, and the map, whose last two bits stand for the rule lists.
 pub record Head : Type 0 where
@@ -103,19 +98,19 @@ pub record Head : Type 0 where
 -- The head after its map, G and K: the two states, and the first symbols.
 abbrev pub headRest : ℕ → ℕ → ℕ → List ℕ → Read Head
 headRest map g k bs =
-    andThen (field (bit 2 map) 3 0 g 0 bs) (λ start rest.
-    andThen (ranged 3 0 g rest) (λ target rest.
-    andThen (field (bit 4 map) 3 0 16 0 rest) (λ a rest.
-    andThen (field (bit 5 map) 3 0 16 0 rest) (λ b rest.
-    value (record { map = map; g = g; k = k; start = start; target = target; a = a; b = b }) rest))))
+    andRead (field (bit 2 map) 3 0 g 0 bs) (λ start rest.
+    andRead (ranged 3 0 g rest) (λ target rest.
+    andRead (field (bit 4 map) 3 0 16 0 rest) (λ a rest.
+    andRead (field (bit 5 map) 3 0 16 0 rest) (λ b rest.
+    accepted (record { map = map; g = g; k = k; start = start; target = target; a = a; b = b }, rest)))))
 
 -- The head: the map, whose bit 3 stands (2), and the head fields in bit order.
 unfoldable pub head : List ℕ → Read Head
 head bs =
-    andThen (byte bs) (λ map rest.
+    andRead (byte bs) (λ map rest.
     need 2 (bit 3 map)
-    (andThen (field (bit 0 map) 3 1 5 4 rest) (λ g rest.
-    andThen (field (bit 1 map) 3 1 4 2 rest) (λ k rest. headRest map g k rest))))
+    (andRead (field (bit 0 map) 3 1 5 4 rest) (λ g rest.
+    andRead (field (bit 1 map) 3 1 4 2 rest) (λ k rest. headRest map g k rest))))
 
 -- A thread with a first symbol and these rules; the unused places are zero.
 abbrev pub threadOf : ℕ → List Rule → Thread
@@ -137,15 +132,15 @@ modelOf h ra rb =
 -- The record at the front of a list: the head, then A's rules and B's.
 unfoldable pub front : List ℕ → Read Model
 front bs =
-    andThen (head bs) (λ h rest.
-    andThen (rules (bit 6 (h .map)) (h .g) rest) (λ ra rest.
-    andThen (rules (bit 7 (h .map)) (h .g) rest) (λ rb rest. value (modelOf h ra rb) rest)))
+    andRead (head bs) (λ h rest.
+    andRead (rules (bit 6 (h .map)) (h .g) rest) (λ ra rest.
+    andRead (rules (bit 7 (h .map)) (h .g) rest) (λ rb rest. accepted (modelOf h ra rb, rest))))
 
 -- Nothing is left after the last field (6).
 abbrev pub ended : Model → List ℕ → Read Model
-ended m [] = value m []
+ended m [] = accepted (m, [])
 ended m (b ∷ rest) = refused 6
 
 -- A whole record.
 unfoldable pub readOf : List ℕ → Read Model
-readOf bs = andThen (front bs) ended
+readOf bs = andRead (front bs) ended

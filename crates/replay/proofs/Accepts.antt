@@ -1,24 +1,26 @@
 -- Replay accepts exactly the legal schedules: bytes of even length are the bytes of their steps, and a walk that is not
 -- refused is a run.
-use mathlib.Core.Bool.{Bool, true, false, cond}
+use mathlib.Core.Bool.{Bool}
 use mathlib.Core.List.{List}
 use mathlib.Core.Logic.{_↔_}
 use mathlib.Core.Path.{_≡_, refl, sym, ap}
-use Prim.Native.Nat.{ℕ, zero, suc, _≤_}
+use Prim.Native.Nat.{ℕ, _≤_}
 use native.Mathlib.Omega.{arith}
 use lib.Dec.{T, eqb}
 use lib.ListN.{length}
 use Rattle.model.specs.declared.Model.{Model}
 use Rattle.model.specs.declared.Shared.{Shared}
+use Rattle.model.specs.Results.{refused, accepted, unless, firstOf}
 use Rattle.model.specs.Runs.{Leads}
 use Rattle.model.specs.Schedules.{bytesOf, stepsOf}
 use Rattle.model.specs.Valid.{Valid, faultOf}
-use Rattle.model.specs.Walk.{Step, Config, Walked, refused, arrived, startOf, walk}
+use Rattle.model.specs.Walk.{Step, Config, Walked, startOf, walk}
+use Rattle.model.proofs.Checks.{both-pass}
+use Rattle.model.proofs.Results.{undue}
 use Rattle.model.proofs.Stores.{length-bytes, steps-bytes, bytes-steps}
 use Rattle.model.proofs.Tests.{tests, passed}
-use Rattle.replay.specs.declared.Replayed.{Replayed}
 use Rattle.replay.specs.declared.Replayed.the-variants.{Accepted, Refused}
-use Rattle.replay.specs.Replay.{sizeFits, answer, unlessFault, replayOf, Legally}
+use Rattle.replay.specs.Replay.{sizeFits, sizeRefusal, answer, replayOf, Legally}
 
 -- The bytes of at most 4,095 steps fit in size.
 fits : (ss : List Step) → length ss ≤ 4095 → T (sizeFits (bytesOf ss))
@@ -29,21 +31,11 @@ fits ss h = simp tests (rw length-bytes (omega arith), rw length-bytes (omega ar
 apart : {X : Type 0} {n : ℕ} {g : Shared} {reached : Bool} → Refused n ≡ Accepted g reached → X
 apart {X} {n} {g} {reached} e = let z : _≡_ {A = ℕ} 0 1 = cc in absurd (omega arith)
 
--- What is accepted has no fault, fits in size, and its walk arrived.
-faultless : (n : ℕ) {r : Replayed} {g : Shared} {reached : Bool} → unlessFault n r ≡ Accepted g reached
-    → (n ≡ 0) × (r ≡ Accepted g reached)
-faultless zero e = (refl, e)
-faultless (suc n) e = apart e
-
-sized : (test : Bool) {r : Replayed} {g : Shared} {reached : Bool} → cond test r (Refused 8) ≡ Accepted g reached
-    → T test × (r ≡ Accepted g reached)
-sized true e = (tt, e)
-sized false e = apart e
-
+-- What is accepted was walked to its last state.
 walked : (m : Model) (w : Walked) {g : Shared} {reached : Bool} → answer m w ≡ Accepted g reached
-    → (c : Config) × (w ≡ arrived c) × (c .shared ≡ g .0) × (reached ≡ eqb (g .0) (m .target .0))
+    → (c : Config) × (w ≡ accepted c) × (c .shared ≡ g .0) × (reached ≡ eqb (g .0) (m .target .0))
 walked m (refused n) e = apart e
-walked m (arrived c) {g} {reached} e =
+walked m (accepted c) {g} {reached} e =
     let shared : record { 0 = c .shared } ≡ g = cc in
     let same : c .shared ≡ g .0 = ap (λ (s : Shared). s .0) shared in
     let test : reached ≡ eqb (c .shared) (m .target .0) = cc in
@@ -52,22 +44,22 @@ walked m (arrived c) {g} {reached} e =
 -- Replay accepts exactly the legal schedules, with the last state of their runs.
 pub accepts : (m : Model) (bs : List ℕ) (g : Shared) (reached : Bool)
     → (replayOf m bs ≡ Accepted g reached) ↔ Legally m bs (g .0) reached
-unfolding replayOf sizeFits
+unfolding replayOf sizeFits firstOf
 accepts m bs g reached = (to, from)
   where
     to : replayOf m bs ≡ Accepted g reached → Legally m bs (g .0) reached
     to e =
-        let f = faultless (faultOf m) e in
-        let s = sized (sizeFits bs) (f .1) in
-        let z = simp tests at (s .0) in
-        let w = walked m (walk m (startOf m) (stepsOf bs)) (s .1) in
+        let w = walked m (unless (sizeRefusal m bs) (walk m (startOf m) (stepsOf bs))) e in
+        let u = undue (sizeRefusal m bs) (w .1) in
+        let s = both-pass (faultOf m) 7 (sizeFits bs) .0 (u .0) in
+        let z = simp tests at (s .1) in
         let same = bytes-steps bs (z .0) in
         record {
-          valid = f .0;
+          valid = s .0;
           steps = stepsOf bs;
           written = sym same;
           most = omega (arith, length-bytes (stepsOf bs), ap length same, z .1);
-          leads = record { last = w .0; walked = w .1; ends = w .2 };
+          leads = record { last = w .0; walked = u .1; ends = w .2 };
           target = w .3;
         }
 

@@ -1,45 +1,42 @@
 -- The answers in their order: a fault of the model, the schedule's size, and where both are good what the walk comes to.
-use mathlib.Core.List.{List}
-use mathlib.Core.Path.{_≡_, refl, sym, _∙_}
-use Prim.Native.Nat.{ℕ, zero, suc, _%_, _<_, _≤_}
+use mathlib.Core.List.{List, [], _∷_}
+use mathlib.Core.Path.{_≡_, sym, _∙_}
+use Prim.Native.Nat.{ℕ, _%_, _<_, _≤_}
 use borrow.Author.Tests.{le-leb, lt-leb, eq-eqb, ne-eqb}
 use lib.ListN.{length}
 use Rattle.model.specs.declared.Model.{Model}
+use Rattle.model.specs.Results.{refuse, firstOf}
 use Rattle.model.specs.Schedules.{stepsOf}
 use Rattle.model.specs.Valid.{faultOf}
 use Rattle.model.specs.Walk.{Walked, startOf, walk}
+use Rattle.model.proofs.Checks.{stops}
 use Rattle.model.proofs.Ranges.{valid-fits}
-use Rattle.replay.specs.declared.Replayed.{Replayed}
+use Rattle.model.proofs.Results.{due}
 use Rattle.replay.specs.declared.Replayed.the-variants.{Refused}
-use Rattle.replay.specs.Replay.{sizeFits, answer, unlessFault, replayOf}
+use Rattle.replay.specs.Replay.{sizeFits, answer, replayOf}
 use Rattle.replay.specs.Stack.{Counted}
 
 -- A valid model's rules are within their arrays.
 pub counted : (m : Model) {found : ℕ} → found ≡ faultOf m → found ≡ 0 → Counted m
 counted m e z = let f = valid-fits m .0 (sym e ∙ z) in record { a = f .a .count; b = f .b .count }
 
--- A number that is not 0 stands for a fault.
-first : (n : ℕ) (r : Replayed) → (n ≡ 0 → ⊥) → Refused n ≡ unlessFault n r
-first zero r h = absurd (h refl)
-first (suc n) r h = refl
-
 module _ (m : Model) (l : List ℕ) {found : ℕ} (e : found ≡ faultOf m) where
   -- A fault of the model is the answer, whatever else there is.
   pub faulty : (found ≡ 0 → ⊥) → Refused found ≡ replayOf m l
   unfolding replayOf
-  faulty h = rw (← e) (first found _ h)
+  faulty h = rw (← stops (refuse 8 (sizeFits l) ∷ []) e h, ← due (walk m (startOf m) (stepsOf l)) h)
 
   -- A schedule of an odd number of bytes, or of too many, is refused ..
   pub uneven : found ≡ 0 → (length l % 2 ≡ 0 → ⊥) → Refused 8 ≡ replayOf m l
-  unfolding replayOf sizeFits
+  unfolding replayOf sizeFits firstOf
   uneven z h = rw (← e, z, ne-eqb (length l % 2) 0 h)
 
   pub too-long : found ≡ 0 → length l % 2 ≡ 0 → 8190 < length l → Refused 8 ≡ replayOf m l
-  unfolding replayOf sizeFits
+  unfolding replayOf sizeFits firstOf
   too-long z h k = rw (← e, z, eq-eqb (length l % 2) 0 h, lt-leb (length l) 8190 k)
 
   -- .. and any other is walked.
   pub walked : found ≡ 0 → length l % 2 ≡ 0 → length l ≤ 8190 → {w : Walked} → w ≡ walk m (startOf m) (stepsOf l)
       → answer m w ≡ replayOf m l
-  unfolding replayOf sizeFits
+  unfolding replayOf sizeFits firstOf
   walked z h k p = rw (p, ← e, z, eq-eqb (length l % 2) 0 h, le-leb (length l) 8190 k)

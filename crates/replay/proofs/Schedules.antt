@@ -5,8 +5,9 @@ use Prim.Native.Nat.{ℕ, _+_, _*_, _/_, _<_, _≤_}
 use native.Mathlib.Omega.{arith}
 use lib.ListN.{length, drop, length-drop}
 use Rattle.model.specs.declared.Model.{Model}
+use Rattle.model.specs.Results.{refused, accepted}
 use Rattle.model.specs.Schedules.{stepsOf, stepAt, stepsFrom}
-use Rattle.model.specs.Walk.{refused, arrived, stepFrom, walk}
+use Rattle.model.specs.Walk.{stepFrom, walk}
 use Rattle.model.proofs.Stores.{first-step, short}
 use Rattle.replay.specs.declared.Walk.{Walk}
 use Rattle.replay.specs.Stack.{configOf}
@@ -24,7 +25,7 @@ module _ {m : Model} {l : List ℕ} {w : Walk} {a b : List ℕ} {v : Walk} {c d 
     (g : Going m l w a b v c d i) where
   -- A step that is made leaves the others to be walked ..
   pub goes-on : i < length l / 2 → {u : Walk} {c′ d′ : List ℕ}
-      → arrived (configOf u c′ d′) ≡ stepFrom m (configOf v c d) (stepAt l i)
+      → accepted (configOf u c′ d′) ≡ stepFrom m (configOf v c d) (stepAt l i)
       → (u .a ≤ v .a + 1) × (u .b ≤ v .b + 1) → length c′ ≡ length c → length d′ ≡ length d
       → Going m l w a b u c′ d′ (i + 1)
   unfolding walk
@@ -45,6 +46,6 @@ module _ {m : Model} {l : List ℕ} {w : Walk} {a b : List ℕ} {v : Walk} {c d 
   stops h p = rw (g .rest, first-step l i h, ← p)
 
   -- .. and past the last the walk has arrived.
-  pub ends : length l / 2 ≤ i → arrived (configOf v c d) ≡ walk m (configOf w a b) (stepsOf l)
+  pub ends : length l / 2 ≤ i → accepted (configOf v c d) ≡ walk m (configOf w a b) (stepsOf l)
   unfolding walk
   ends h = rw (g .rest, short (drop (2 * i) l) (simp length-drop (omega arith)))

@@ -6,9 +6,10 @@ use Prim.Native.Nat.{ℕ, zero, suc, _*_, _%_, _<_, _≤_}
 use native.Mathlib.Omega.{arith}
 use borrow.Author.Tests.{le-ltb, lt-ltb, le-leb, lt-leb}
 use Rattle.model.specs.declared.Model.{Model}
+use Rattle.model.specs.Results.{refused, accepted, need}
 use Rattle.model.specs.Rules.{applies}
 use Rattle.model.specs.Walk.{ThreadId, A, B, ownerOf, threadOf, stackOf, withStack, Config, Step}
-use Rattle.model.specs.Walk.{Walked, refused, arrived, need, turnFits, fire, stepFrom}
+use Rattle.model.specs.Walk.{Walked, turnFits, fire, stepFrom}
 use Rattle.replay.specs.Stack.{Moved, stuck, moved, moveOf}
 
 -- Even turns are A's ..
@@ -26,7 +27,7 @@ odd-turn (suc (suc t)) h = rw (odd-turn t (λ e. h (omega arith)))
 -- What the step of a thread comes to as a step of the walk.
 abbrev pub carried : ThreadId → Config → Step → Moved → Walked
 carried i c s stuck = refused 10
-carried i c s (moved g w) = arrived (record { turn = s .turn; shared = g; stacks = withStack i w (c .stacks) })
+carried i c s (moved g w) = accepted (record { turn = s .turn; shared = g; stacks = withStack i w (c .stacks) })
 
 -- A rule that does not apply is refused either way.
 decides : (i : ThreadId) (c : Config) (s : Step) (b : Bool) (g : ℕ) (w : List ℕ)

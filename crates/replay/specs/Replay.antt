@@ -1,15 +1,16 @@
 -- Replay: what the walk of a schedule given as bytes comes to, with the number of each refusal.
-use mathlib.Core.Bool.{Bool, _&&_, cond}
-use mathlib.Core.List.{List}
+use mathlib.Core.Bool.{Bool, _&&_}
+use mathlib.Core.List.{List, [], _∷_}
 use mathlib.Core.Path.{_≡_}
-use Prim.Native.Nat.{ℕ, zero, suc, _%_, _≤_}
+use Prim.Native.Nat.{ℕ, _%_, _≤_}
 use lib.Dec.{leb, eqb}
 use lib.ListN.{length}
 use Rattle.model.specs.declared.Model.{Model}
+use Rattle.model.specs.Results.{refused, accepted, unless, refuse, firstOf}
 use Rattle.model.specs.Runs.{Leads}
 use Rattle.model.specs.Schedules.{bytesOf, stepsOf}
 use Rattle.model.specs.Valid.{Valid, faultOf}
-use Rattle.model.specs.Walk.{Step, Walked, refused, arrived, startOf, walk}
+use Rattle.model.specs.Walk.{Step, Walked, startOf, walk}
 use Rattle.replay.specs.declared.Replayed.{Replayed}
 use Rattle.replay.specs.declared.Replayed.the-variants.{Accepted, Refused}
 
@@ -17,20 +18,18 @@ use Rattle.replay.specs.declared.Replayed.the-variants.{Accepted, Refuse
 unfoldable pub sizeFits : List ℕ → Bool
 sizeFits bytes = eqb (length bytes % 2) 0 && leb (length bytes) 8190
 
--- What a walk's end says: the last shared state, and whether it is the target; or the walk's refusal, 9 or 10.
+-- What is refused before the walk, in order: the model's fault (3, 4), then the schedule's size (8); 0 for nothing.
+abbrev pub sizeRefusal : Model → List ℕ → ℕ
+sizeRefusal m bytes = firstOf (faultOf m ∷ refuse 8 (sizeFits bytes) ∷ [])
+
+-- What a walk's end says: the last shared state, and whether it is the target; or the refusal, the walk's being 9 or 10.
 abbrev pub answer : Model → Walked → Replayed
 answer m (refused n) = Refused n
-answer m (arrived c) = Accepted (record { 0 = c .shared }) (eqb (c .shared) (m .target .0))
+answer m (accepted c) = Accepted (record { 0 = c .shared }) (eqb (c .shared) (m .target .0))
 
--- A fault of the model comes before all else.
-abbrev pub unlessFault : ℕ → Replayed → Replayed
-unlessFault zero r = r
-unlessFault (suc n) r = Refused (suc n)
-
--- The answers in order: the model's fault (3, 4), the schedule's size (8), the walk.
+-- The answer: what is refused before the walk, or what the walk from the start comes to.
 unfoldable pub replayOf : Model → List ℕ → Replayed
-replayOf m bytes =
-    unlessFault (faultOf m) (cond (sizeFits bytes) (answer m (walk m (startOf m) (stepsOf bytes))) (Refused 8))
+replayOf m bytes = answer m (unless (sizeRefusal m bytes) (walk m (startOf m) (stepsOf bytes)))
 
 -- Bytes are a legal schedule of at most 4,095 steps of a valid model, whose last shared state is q; `reached` says whether that
 -- is the target. Replay accepts just those (a law).

@@ -6,8 +6,9 @@ use Prim.Native.Nat.{ℕ, zero, suc, _+_, _≤_}
 use lib.ListN.{length, getD}
 use Rattle.model.specs.declared.Model.{Model}
 use Rattle.model.specs.declared.Thread.{Thread}
+use Rattle.model.specs.Results.{refused, accepted}
 use Rattle.model.specs.Rules.{ruleAt, applies, put}
-use Rattle.model.specs.Walk.{Config, Walked, refused, arrived}
+use Rattle.model.specs.Walk.{Config, Walked}
 use Rattle.replay.specs.declared.Fired.{Fired}
 use Rattle.replay.specs.declared.Fired.the-variants.{Done, Stuck}
 use Rattle.replay.specs.declared.Stepped.{Stepped}
@@ -26,7 +27,7 @@ configOf w a b =
 
 -- What the answer of a step, or of several, stands for, with the buffers as it left them.
 abbrev pub walkedOf : Stepped → List ℕ → List ℕ → Walked
-walkedOf (Made w) a b = arrived (configOf w a b)
+walkedOf (Made w) a b = accepted (configOf w a b)
 walkedOf (Refused n) a b = refused n
 
 -- The rule counts of both threads are within their arrays of 64.

@@ -9,10 +9,12 @@ use lib.ListN.{length, length-append}
 use Rattle.model.specs.declared.Model.{Model}
 use Rattle.model.specs.Fits.{Fits}
 use Rattle.model.specs.Lines.{powers}
+use Rattle.model.specs.Results.{accepted}
 use Rattle.model.specs.Runs.{Leads}
-use Rattle.model.specs.Walk.{ThreadId, A, B, ownerOf, threadOf, Config, Step, arrived, stepFrom, walk}
+use Rattle.model.specs.Walk.{ThreadId, A, B, ownerOf, threadOf, Config, Step, stepFrom, walk}
 use Rattle.model.proofs.Inside.{applies-iff}
-use Rattle.model.proofs.Steps.{stepped, through}
+use Rattle.model.proofs.Results.{through}
+use Rattle.model.proofs.Steps.{stepped}
 use Rattle.report.specs.Text.{line, stepLine, stepLines, countLine, foundWord}
 use Rattle.report.proofs.Numbers.{digits-1, digits-2, digits-4, length-line}
 
@@ -27,7 +29,7 @@ step-short s h k =
     simp (length-append, length-line) (omega (arith, digits-1 (s .turn) h, digits-2 (s .rule) k))
 
 -- .. and so have those of a walk.
-walk-short : {m : Model} → Fits m → (ss : List Step) (c : Config) {d : Config} → walk m c ss ≡ arrived d
+walk-short : {m : Model} → Fits m → (ss : List Step) (c : Config) {d : Config} → walk m c ss ≡ accepted d
     → length (stepLines ss) ≤ 7 * length ss
 unfolding walk stepLines
 walk-short f [] c e = omega arith

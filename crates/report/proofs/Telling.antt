@@ -9,9 +9,10 @@ use lib.Dec.{T}
 use lib.ListN.{length, take}
 use Rattle.model.specs.declared.Model.{Model}
 use Rattle.model.specs.Lines.{Line, powers, bits, digits, position}
+use Rattle.model.specs.Results.{refused, accepted, firstOf}
 use Rattle.model.specs.Runs.{Reaches, Marked}
 use Rattle.model.specs.Schedules.{stepsOf, Stored}
-use Rattle.model.specs.Valid.{Valid, firstOf}
+use Rattle.model.specs.Valid.{Valid}
 use Rattle.model.specs.Verdict.{clear, long, found, Judged}
 use Rattle.model.specs.Walk.{Step}
 use Rattle.model.proofs.Positions.{length-digits, value-digits, digits-states, position-below, line-at-position}
@@ -22,7 +23,7 @@ use Rattle.reach.specs.Bits.{bitAt, bytesFor}
 use Rattle.record.specs.declared.Answer.the-variants.{Accepted, Refused}
 use Rattle.record.specs.declared.Reading.{Reading}
 use Rattle.record.specs.Held.{readingOf}
-use Rattle.record.specs.Reader.{Read, refused, value}
+use Rattle.record.specs.Reader.{Read}
 use Rattle.judge.specs.Answer.{refusalOf}
 use Rattle.report.specs.Prints.{Marks, Judges, Answers}
 use Rattle.report.specs.Table.{standing, Fills}
@@ -104,14 +105,14 @@ pub tells-long : {m : Model} → Judged m long → Judges m longLine
 tells-long j = record { verdict = long; judged = j; tells = refl }
 
 -- The text of a model that a whole record holds is the text of the record ..
-pub accepted : (x : Read Model) {r : Reading} → r ≡ readingOf x → r .answer ≡ Accepted → (text : List ℕ)
+pub acceptance : (x : Read Model) {r : Reading} → r ≡ readingOf x → r .answer ≡ Accepted → (text : List ℕ)
     → Judges (r .model) text → Answers x text
 unfolding readingOf
-accepted (refused n) e a text j = absurd (let z : _≡_ {A = ℕ} 0 1 = cc in omega arith)
-accepted (value m rest) e a text j = subst (λ r. Judges (r .model) text) e j
+acceptance (refused n) e a text j = absurd (let z : _≡_ {A = ℕ} 0 1 = cc in omega arith)
+acceptance (accepted (m, rest)) e a text j = subst (λ r. Judges (r .model) text) e j
 
 -- .. and so is the line of a refusal.
 pub refusal : (x : Read Model) {r : Reading} {n : ℕ} → r ≡ readingOf x → r .answer ≡ Refused n → Answers x (line refusedWord n)
 unfolding readingOf
 refusal (refused k) {r} {n} e a = let same : k ≡ n = cc in rw same
-refusal (value m rest) e a = absurd (let z : _≡_ {A = ℕ} 0 1 = cc in omega arith)
+refusal (accepted (m, rest)) e a = absurd (let z : _≡_ {A = ℕ} 0 1 = cc in omega arith)

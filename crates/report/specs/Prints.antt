@@ -8,11 +8,12 @@ use lib.Dec.{T}
 use lib.ListN.{length, drop}
 use Rattle.model.specs.declared.Model.{Model}
 use Rattle.model.specs.Lines.{digits}
+use Rattle.model.specs.Results.{refused, accepted}
 use Rattle.model.specs.Runs.{Reaches, Marked}
 use Rattle.model.specs.Schedules.{Shown}
 use Rattle.model.specs.Verdict.{Verdict, clear, long, found, Judged}
 use Rattle.model.specs.Valid.{Valid}
-use Rattle.record.specs.Reader.{Read, refused, value, readOf}
+use Rattle.record.specs.Reader.{Read, readOf}
 use Rattle.report.specs.Text.{line, refusedWord, foundWord, clearLine, longLine, stepLines, countLines}
 
 -- A set of lines, by their lengths and values, is that of a model's marked lines.
@@ -45,7 +46,7 @@ pub record Judges (m : Model) (text : List ℕ) : Type 0 where
 -- The text for what reading comes to: the number of the refusal, or the verdict on the model.
 abbrev pub Answers : Read Model → List ℕ → Type 0
 Answers (refused n) text = text ≡ line refusedWord n
-Answers (value m rest) text = Judges m text
+Answers (accepted (m, rest)) text = Judges m text
 
 -- The text for the bytes of a record.
 abbrev pub Prints : List ℕ → List ℕ → Type 0

@@ -12,7 +12,8 @@ use Rattle.model.specs.declared.Right.{Right}
 use Rattle.model.specs.declared.Right.the-variants.{Remove, Swap, Push}
 use Rattle.model.specs.declared.Rule.{Rule}
 use Rattle.model.specs.declared.Thread.{Thread}
-use Rattle.model.specs.Valid.{Valid, faultOf, firstOf, headFault, threadFault, ruleFault, rightFault, symbolFault}
+use Rattle.model.specs.Results.{firstOf}
+use Rattle.model.specs.Valid.{Valid, faultOf, headFault, threadFault, ruleFault, rightFault, symbolFault}
 use Rattle.writer.specs.Writer.{fieldOf, weight, symbolsOf, ruleOf, ruleListOf, rulesOf, mapOf, headBytes, recordOf}
 
 -- A field has at most one byte.

@@ -1,5 +1,6 @@
 -- `head_fault` meets its contract: each test of the code decides one check of the definition.
-use Rattle.model.specs.Valid.{firstOf, headFault}
+use Rattle.model.specs.Results.{firstOf}
+use Rattle.model.specs.Valid.{headFault}
 use Rattle.model.proofs.Tests.{decided}
 use Rattle.model.proofs.head_fault.Statement.{statement}
 use Rattle.model.proofs.head_fault.Tie as tie

@@ -1,6 +1,7 @@
 -- `rule_fault` meets its contract: each test of the code decides one check, and the right side is the last.
 use borrow.Author.Needs.{needs}
-use Rattle.model.specs.Valid.{firstOf, ruleFault, symbolFault}
+use Rattle.model.specs.Results.{firstOf}
+use Rattle.model.specs.Valid.{ruleFault, symbolFault}
 use Rattle.model.proofs.Checks.{closes}
 use Rattle.model.proofs.Tests.{decided}
 use Rattle.model.proofs.rule_fault.Statement.{statement}

@@ -5,8 +5,9 @@ use native.Mathlib.Omega.{arith}
 use lib.ListN.{length}
 use borrow.Author.Needs.{needs}
 use borrow.Author.Tests.{le-leb}
+use Rattle.model.specs.Results.{refuse, firstOf}
 use Rattle.model.specs.Rules.{zeroRule}
-use Rattle.model.specs.Valid.{ruleFault, threadFault, firstOf, refuse}
+use Rattle.model.specs.Valid.{ruleFault, threadFault}
 use Rattle.model.proofs.Checks.{passes, closes, faultFrom, stops-at, goes-on, runs-out, length-mapped}
 use Rattle.model.proofs.Tests.{decided}
 use Rattle.model.proofs.thread_fault.Statement.{statement}

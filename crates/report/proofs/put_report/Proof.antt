@@ -2,7 +2,7 @@
 use native.Mathlib.Omega.{arith}
 use borrow.Author.Needs.{needs}
 use Rattle.report.proofs.Putting.{held, as-kind}
-use Rattle.report.proofs.Telling.{refused-short, accepted, refusal}
+use Rattle.report.proofs.Telling.{refused-short, acceptance, refusal}
 use Rattle.report.proofs.put_report.Statement.{statement}
 use Rattle.report.proofs.put_report.Tie as tie
 
@@ -35,7 +35,7 @@ same-length c = search needs
 returns : tie.Need-returns
 returns c =
     let arm = c .before .before .before .before in
-    as-kind (accepted _ (arm .before .before .read .ensures .0) (arm .enum-told .given .1)) (c .before .before .judged .ensures)
+    as-kind (acceptance _ (arm .before .before .read .ensures .0) (arm .enum-told .given .1)) (c .before .before .judged .ensures)
 
 same-length-2 : tie.Need-same-length-2
 same-length-2 c = search needs

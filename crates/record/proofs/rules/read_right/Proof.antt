@@ -4,7 +4,8 @@ use mathlib.Core.List.{List}
 use mathlib.Core.Path.{_≡_}
 use Prim.Native.Nat.{ℕ}
 use borrow.Author.Tests.{not-true, not-false}
-use Rattle.record.specs.Reader.{refused, ranged, right}
+use Rattle.model.specs.Results.{refused}
+use Rattle.record.specs.Reader.{ranged, right}
 use Rattle.record.proofs.Parts.{got, ends, refuses}
 use borrow.Author.Needs.{needs}
 use Rattle.record.proofs.rules.read_right.Statement.{statement}

@@ -1,10 +1,11 @@
 -- `read_rules` meets its contract. The invariant: the rules read so far stand before those still to come.
-use Prim.Native.Nat.{_≤_, _-_}
+use Prim.Native.Nat.{_≤_, _-_, zero-le}
 use native.Mathlib.Omega.{arith}
 use lib.ListN.{length, drop}
 use Rattle.record.specs.Reader as reader
 use Rattle.record.proofs.Parts.{got, ends, refuses}
-use Rattle.record.proofs.Lists.{padded-none, Progress, starts, steps, breaks, stops, below}
+use Rattle.record.proofs.Lists.{padded-none, Progress, starts, steps, breaks, stops}
+use Rattle.record.proofs.OneField.{field-forth}
 use borrow.Author.Needs.{needs}
 use Rattle.record.proofs.rules.read_rules.Statement.{statement}
 use Rattle.record.proofs.rules.read_rules.Tie as tie
@@ -37,7 +38,7 @@ unfolding reader.rules
 loop-holds c =
     let r = c .before .before .before .before .field .ensures in
     let e = c .before .before .x .given .1 in
-    let small = below _ _ _ _ _ _ (omega arith) (got r e) in
+    let small = field-forth _ 4 0 65 0 _ zero-le (omega arith) (got r e) .most in
     (ends r e, starts _ _ _ (omega arith) (rw (got r e)))
 
 read-rule-requires : tie.Need-read-rule-requires Inv-loop μ-loop
