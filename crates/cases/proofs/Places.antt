@@ -13,7 +13,9 @@ use Rattle.model.specs.declared.Model.{Model}
 use Rattle.model.specs.declared.Rule.{Rule}
 use Rattle.model.specs.declared.Thread.{Thread}
 use Rattle.model.specs.Rules.{ruleAt, applies, put}
-use Rattle.model.specs.Walk.{ThreadId, A, B, ownerOf, threadOf, ruleOf, Stacks, stackOf, withStack}
+use Rattle.model.specs.declared.ThreadId.{ThreadId}
+use Rattle.model.specs.declared.ThreadId.the-variants.{A, B}
+use Rattle.model.specs.Walk.{ownerOf, threadOf, ruleOf, Stacks, stackOf, withStack}
 use Rattle.model.proofs.Tests.{passed, both, equal, tests}
 use Rattle.cases.proofs.Scans.{all, all-append, all-map, alike, alike-same}
 use Rattle.cases.proofs.Shapes.{Shape, Matches, under, under-matches, fired, fired-matches}

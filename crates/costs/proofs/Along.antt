@@ -12,7 +12,9 @@ use Rattle.model.specs.declared.Model.{Model}
 use Rattle.model.specs.declared.Right.{Right}
 use Rattle.model.specs.Lines.{States}
 use Rattle.model.specs.Rules.{put}
-use Rattle.model.specs.Walk.{ThreadId, A, B, other, ownerOf, threadOf, Step}
+use Rattle.model.specs.declared.ThreadId.{ThreadId}
+use Rattle.model.specs.declared.ThreadId.the-variants.{A, B}
+use Rattle.model.specs.Walk.{other, ownerOf, threadOf, Step}
 use Rattle.summary.specs.Control.{Control, TurnEnd, Moves, Switches, InTable, Inside}
 use Rattle.summary.specs.Stretch.{Path}
 use Rattle.summary.proofs.Leasts.{least-as}

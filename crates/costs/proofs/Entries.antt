@@ -7,7 +7,7 @@ use native.Mathlib.Numerals.{add-one}
 use native.Mathlib.Omega.{arith}
 use lib.ListN.{getD}
 use borrow.Author.Tests.{le-leb}
-use Rattle.model.specs.Walk.{ThreadId}
+use Rattle.model.specs.declared.ThreadId.{ThreadId}
 use Rattle.summary.specs.Control.{Control, TurnEnd, dest, placeOf, entry}
 use Rattle.summary.specs.Edges.{cell, bestOf}
 use Rattle.summary.specs.Stretch.{End, pop, stay, endOf}

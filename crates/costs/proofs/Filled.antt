@@ -12,7 +12,7 @@ use lib.ListN.{getD}
 use Rattle.model.specs.declared.Thread.{Thread}
 use Rattle.model.specs.Fits.{ThreadFits}
 use Rattle.model.specs.Lines.{digits}
-use Rattle.model.specs.Walk.{ThreadId}
+use Rattle.model.specs.declared.ThreadId.{ThreadId}
 use Rattle.model.proofs.Positions.{length-digits, digits-states}
 use Rattle.summary.specs.Control.{TurnEnd, Inside, Summed}
 use Rattle.costs.specs.Cost.{Costs, LeastAt}

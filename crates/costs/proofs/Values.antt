@@ -5,7 +5,7 @@ use Prim.Native.Nat.{ℕ, suc, _+_, _*_, _^_, _<_}
 use native.Mathlib.Omega.{arith}
 use lib.ListN.{getD}
 use Rattle.model.specs.Lines.{digits}
-use Rattle.model.specs.Walk.{ThreadId}
+use Rattle.model.specs.declared.ThreadId.{ThreadId}
 use Rattle.summary.specs.Control.{TurnEnd}
 use Rattle.costs.specs.Cost.{control, pairCost, lineCost}
 use Rattle.costs.specs.Ends.{turnOf, endsOf, firstState, lastState}

@@ -10,7 +10,9 @@ use lib.ListN.{length}
 use Rattle.model.specs.declared.Model.{Model}
 use Rattle.model.specs.Rules.{ruleAt, applies, put}
 use Rattle.model.specs.Runs.{Turns, stop, end, move, Marked}
-use Rattle.model.specs.Walk.{ThreadId, A, B, other, ownerOf, threadOf, Stacks, stackOf, withStack, startStacks, Step}
+use Rattle.model.specs.declared.ThreadId.{ThreadId}
+use Rattle.model.specs.declared.ThreadId.the-variants.{A, B}
+use Rattle.model.specs.Walk.{other, ownerOf, threadOf, Stacks, stackOf, withStack, startStacks, Step}
 use Rattle.costs.specs.View.{View, stop, skip, end, move}
 
 -- The steps of two lists in one, each list in its own order.

@@ -1,13 +1,14 @@
 -- The least number of steps of one thread along a line, read off the table of its stretches: the first symbol still stands
 -- at the end, or it has gone at some control and the floor, which no rule takes, stands from there on.
-use mathlib.Core.Bool.{Bool, true, false}
 use mathlib.Core.List.{List, [], _∷_}
 use Prim.Native.Nat.{ℕ, zero, suc, _-_, _*_, _^_, _<_}
 use lib.ListN.{getD}
 use Rattle.model.specs.declared.Thread.{Thread}
 use Rattle.model.specs.Lines.{digits}
 use Rattle.model.specs.declared.Model.{Model}
-use Rattle.model.specs.Walk.{ThreadId, A, B, threadOf, Step}
+use Rattle.model.specs.declared.ThreadId.{ThreadId}
+use Rattle.model.specs.declared.ThreadId.the-variants.{A, B}
+use Rattle.model.specs.Walk.{threadOf, Step}
 use Rattle.costs.specs.View.{View}
 use Rattle.summary.specs.Control.{Control, TurnEnd, Moves, Switches, entry}
 use Rattle.summary.specs.Edges.{bestOf}
@@ -46,11 +47,6 @@ lineCost i tab G n g γ line =
 -- A cost is the capped least number of a thread's steps in its views of a line, from the start of a model.
 abbrev pub ViewCost : Model → ThreadId → List ℕ → ℕ → Type 0
 ViewCost m i line cost = Least (View m i 0 (m .start .0) (threadOf i m .first .0 ∷ []) line) cost
-
--- The thread that a flag names: B where it is set.
-abbrev pub idOf : Bool → ThreadId
-idOf false = A
-idOf true = B
 
 -- The steps of a thread along a full line with n turn ends, where the run starts in g.
 abbrev pub RunAlong : Thread → ThreadId → ℕ → ℕ → List ℕ → List Step → Type 0

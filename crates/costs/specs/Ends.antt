@@ -2,7 +2,8 @@
 use mathlib.Core.List.{List}
 use Prim.Native.Nat.{ℕ, suc, _+_, _*_}
 use lib.ListN.{getD}
-use Rattle.model.specs.Walk.{ThreadId, A, B}
+use Rattle.model.specs.declared.ThreadId.{ThreadId}
+use Rattle.model.specs.declared.ThreadId.the-variants.{A, B}
 use Rattle.summary.specs.Control.{TurnEnd}
 
 -- The number of a thread's own turn j: even ones are A's.

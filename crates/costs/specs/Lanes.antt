@@ -6,7 +6,7 @@ use Prim.Native.Nat.{ℕ, zero, suc, _+_, _*_, _^_, _<_}
 use lib.ListN.{getD}
 use Rattle.model.specs.declared.Thread.{Thread}
 use Rattle.model.specs.Lines.{digits}
-use Rattle.model.specs.Walk.{ThreadId}
+use Rattle.model.specs.declared.ThreadId.{ThreadId}
 use Rattle.summary.specs.Cells.{plain, lane, laneOf, first, second}
 use Rattle.summary.specs.Control.{TurnEnd}
 use Rattle.costs.specs.Cost.{lineCost, LeastAt}

@@ -6,7 +6,8 @@ use Prim.Native.Nat.{ℕ, suc}
 use lib.Dec.{T}
 use Rattle.model.specs.declared.Model.{Model}
 use Rattle.model.specs.Rules.{ruleAt, applies, put}
-use Rattle.model.specs.Walk.{ThreadId, other, ownerOf, threadOf, Step}
+use Rattle.model.specs.declared.ThreadId.{ThreadId}
+use Rattle.model.specs.Walk.{other, ownerOf, threadOf, Step}
 
 -- From a turn, a shared state and the thread's stack on: the line, and the thread's own steps.
 pub data View (m : Model) (i : ThreadId) : ℕ → ℕ → List ℕ → List ℕ → List Step → Type 0 where

@@ -6,7 +6,7 @@ ghost use lib.Dec.{eqb};
 ghost use lib.ListN.{length, getD};
 ghost use Rattle.model.specs.Fits.{Fits, ThreadFits};
 ghost use Rattle.summary.specs.Cells.{size, second, First, Solved};
-ghost use Rattle.costs.specs.Cost.{idOf, Costs, BothCosts};
+ghost use Rattle.costs.specs.Cost.{Costs, BothCosts};
 ghost use Rattle.costs.specs.Lanes.{lineLane, costOf, CostsTo, FirstLanes};
 
 pub mod line;
@@ -17,6 +17,7 @@ use crate::parts::lane_of;
 use crate::parts::power;
 use model::Model;
 use model::Thread;
+use model::ThreadId;
 use summary::turns::close_first;
 use summary::turns::close_plain;
 use summary::turns::close_second;
@@ -30,75 +31,91 @@ pub fn both(m: Model, a: &mut [u64], b: &mut [u64])
     let n = m.k as usize - 1;
     let start = m.start.0 as usize;
     let mut table = [0u64; 17952];
-    fill(&mut table, a, g, n, false, start, m.a);
-    fill(&mut table, b, g, n, true, start, m.b);
+    fill(&mut table, a, g, n, ThreadId::A, start, m.a);
+    fill(&mut table, b, g, n, ThreadId::B, start, m.b);
 }
 
 // The costs of all full lines of a thread with n turn ends.
-fn fill(t: &mut [u64], costs: &mut [u64], g: usize, n: usize, other: bool, start: usize, th: Thread)
+fn fill(
+    t: &mut [u64],
+    costs: &mut [u64],
+    g: usize,
+    n: usize,
+    id: ThreadId,
+    start: usize,
+    th: Thread,
+)
     requires { ⌜
         (length (now t) ≡ size) × (length (now costs) ≡ 4096) × (1 ≤ g) × (g ≤ 4) × (n ≤ 2) × (start < g) × ThreadFits g th
         ⌝ }
-    ensures { λ r. ⌜ Costs th (idOf other) g n start (now (costs .exit)) ⌝ }
+    ensures { λ r. ⌜ Costs th id g n start (now (costs .exit)) ⌝ }
 {
     let top = th.first.0 as usize;
     close_plain(t, g, th);
     if n == 0 {
-        fill_all(t, costs, g, n, other, start, top);
+        fill_all(t, costs, g, n, id, start, top);
         return;
     }
     close_first(t, g, th);
     if n == 1 {
-        fill_all(t, costs, g, n, other, start, top);
+        fill_all(t, costs, g, n, id, start, top);
         return;
     }
-    fill_ends(t, costs, g, other, start, th);
+    fill_ends(t, costs, g, id, start, th);
 }
 
 // The costs of all full lines.
-fn fill_all(t: &[u64], costs: &mut [u64], g: usize, n: usize, other: bool, start: usize, top: usize)
+fn fill_all(
+    t: &[u64],
+    costs: &mut [u64],
+    g: usize,
+    n: usize,
+    id: ThreadId,
+    start: usize,
+    top: usize,
+)
     requires { ⌜
         (length (now t) ≡ size) × (length (now costs) ≡ 4096) × (1 ≤ g) × (g ≤ 4) × (n ≤ 2) × (start < g) × (top < 17)
         ⌝ }
     ensures { λ r. ⌜
         ((v : ℕ) → v < g ^ (2 * suc n)
-        → getD (now (costs .exit)) v 0 ≡ costOf (idOf other) (now (t .entry)) g n start top v)
+        → getD (now (costs .exit)) v 0 ≡ costOf id (now (t .entry)) g n start top v)
         ⌝ }
 {
     let count = power(g, 2 * n + 2);
     let mut v = 0;
     while v < count {
-        costs[v] = line_cost(t, g, n, other, start, top, v);
+        costs[v] = line_cost(t, g, n, id, start, top, v);
         v += 1;
     }
 }
 
 // The costs of all full lines with two turn ends, one first turn end after the other.
-fn fill_ends(t: &mut [u64], costs: &mut [u64], g: usize, other: bool, start: usize, th: Thread)
+fn fill_ends(t: &mut [u64], costs: &mut [u64], g: usize, id: ThreadId, start: usize, th: Thread)
     requires { ⌜
         (length (now t) ≡ size) × (length (now costs) ≡ 4096) × (1 ≤ g) × (g ≤ 4) × (start < g) × ThreadFits g th
         × Solved (First th g) second (now t)
         ⌝ }
-    ensures { λ r. ⌜ Costs th (idOf other) g 2 start (now (costs .exit)) ⌝ }
+    ensures { λ r. ⌜ Costs th id g 2 start (now (costs .exit)) ⌝ }
 {
     let mut lanes = [0usize; 4096];
-    find_lanes(&mut lanes, g, other);
+    find_lanes(&mut lanes, g, id);
     let mut o = 0;
     while o < g {
-        fill_from(t, costs, &lanes, g, other, start, o, th);
+        fill_from(t, costs, &lanes, g, id, start, o, th);
         o += 1;
     }
 }
 
 // The lane of each full line's first turn end.
-fn find_lanes(lanes: &mut [usize], g: usize, other: bool)
+fn find_lanes(lanes: &mut [usize], g: usize, id: ThreadId)
     requires { ⌜ (length (now lanes) ≡ 4096) × (1 ≤ g) × (g ≤ 4) ⌝ }
-    ensures { λ _. ⌜ FirstLanes (idOf other) g (now (lanes .exit)) ⌝ }
+    ensures { λ _. ⌜ FirstLanes id g (now (lanes .exit)) ⌝ }
 {
     let count = power(g, 6);
     let mut v = 0;
     while v < count {
-        lanes[v] = lane_of(g, 6, v, other, 0);
+        lanes[v] = lane_of(g, 6, v, id, 0);
         v += 1;
     }
 }
@@ -109,23 +126,23 @@ fn fill_from(
     costs: &mut [u64],
     lanes: &[usize],
     g: usize,
-    other: bool,
+    id: ThreadId,
     start: usize,
     o: usize,
     th: Thread,
 )
     requires { ⌜
         (length (now t) ≡ size) × (length (now costs) ≡ 4096) × (1 ≤ g) × (g ≤ 4) × (start < g) × (o < g) × ThreadFits g th
-        × Solved (First th g) second (now t) × CostsTo th (idOf other) g start (o * 4) (now costs)
-        ⌝ ∗ ⌜ (length (now lanes) ≡ 4096) × FirstLanes (idOf other) g (now lanes) ⌝ }
+        × Solved (First th g) second (now t) × CostsTo th id g start (o * 4) (now costs)
+        ⌝ ∗ ⌜ (length (now lanes) ≡ 4096) × FirstLanes id g (now lanes) ⌝ }
     ensures solved { λ r. ⌜ Solved (First th g) second (now (t .exit)) ⌝ }
-    ensures known { λ r. ⌜ CostsTo th (idOf other) g start (o * 4 + 4) (now (costs .exit)) ⌝ }
+    ensures known { λ r. ⌜ CostsTo th id g start (o * 4 + 4) (now (costs .exit)) ⌝ }
 {
     let top = th.first.0 as usize;
     let mut i = 0;
     while i < g {
         close_second(t, g, o, i, th);
-        fill_slice(t, costs, lanes, g, other, start, top, o * 4 + i);
+        fill_slice(t, costs, lanes, g, id, start, top, o * 4 + i);
         i += 1;
     }
 }
@@ -136,25 +153,25 @@ fn fill_slice(
     costs: &mut [u64],
     lanes: &[usize],
     g: usize,
-    other: bool,
+    id: ThreadId,
     start: usize,
     top: usize,
     lane: usize,
 )
     requires { ⌜
         (length (now t) ≡ size) × (length (now costs) ≡ 4096) × (1 ≤ g) × (g ≤ 4) × (start < g) × (top < 17)
-        ⌝ ∗ ⌜ (length (now lanes) ≡ 4096) × FirstLanes (idOf other) g (now lanes) ⌝ }
+        ⌝ ∗ ⌜ (length (now lanes) ≡ 4096) × FirstLanes id g (now lanes) ⌝ }
     ensures { λ r. ⌜
         ((v : ℕ) → v < g ^ 6
         → getD (now (costs .exit)) v 0
-        ≡ cond (eqb (lineLane (idOf other) g 6 v 0) lane) (costOf (idOf other) (now (t .entry)) g 2 start top v)
+        ≡ cond (eqb (lineLane id g 6 v 0) lane) (costOf id (now (t .entry)) g 2 start top v)
         (getD (now (costs .entry)) v 0))
         ⌝ }
 {
     let count = power(g, 6);
     let mut v = 0;
     while v < count {
-        costs[v] = slice_cost(t, lanes, g, other, start, top, lane, v, costs[v]);
+        costs[v] = slice_cost(t, lanes, g, id, start, top, lane, v, costs[v]);
         v += 1;
     }
 }
@@ -164,7 +181,7 @@ fn slice_cost(
     t: &[u64],
     lanes: &[usize],
     g: usize,
-    other: bool,
+    id: ThreadId,
     start: usize,
     top: usize,
     lane: usize,
@@ -173,13 +190,13 @@ fn slice_cost(
 ) -> u64
     requires { ⌜
         (length (now t) ≡ size) × (1 ≤ g) × (g ≤ 4) × (start < g) × (top < 17) × (v < g ^ 6)
-        ⌝ ∗ ⌜ (v < length (now lanes)) × FirstLanes (idOf other) g (now lanes) ⌝ }
+        ⌝ ∗ ⌜ (v < length (now lanes)) × FirstLanes id g (now lanes) ⌝ }
     ensures { λ r. ⌜
-        r ≡ cond (eqb (lineLane (idOf other) g 6 v 0) lane) (costOf (idOf other) (now (t .entry)) g 2 start top v) old
+        r ≡ cond (eqb (lineLane id g 6 v 0) lane) (costOf id (now (t .entry)) g 2 start top v) old
         ⌝ }
 {
     if lanes[v] == lane {
-        line_cost(t, g, 2, other, start, top, v)
+        line_cost(t, g, 2, id, start, top, v)
     } else {
         old
     }

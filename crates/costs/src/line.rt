@@ -3,6 +3,7 @@ use crate::parts::first_state;
 use crate::parts::lane_of;
 use crate::parts::state_at;
 use crate::parts::turn_of;
+use model::ThreadId;
 use summary::cells::FIRST;
 use summary::cells::SECOND;
 use summary::cells::lane_place;
@@ -14,7 +15,7 @@ ghost use lib.ListN.{length};
 ghost use Rattle.summary.specs.Cells.{size};
 ghost use Rattle.summary.specs.Control.{TurnEnd};
 ghost use Rattle.summary.specs.Edges.{bestOf, cell};
-ghost use Rattle.costs.specs.Cost.{control, overStates, pairCost, idOf};
+ghost use Rattle.costs.specs.Cost.{control, overStates, pairCost};
 ghost use Rattle.costs.specs.Lanes.{placeAt, endLane, LaneTo, costOf};
 
 // The cost of the full line whose value is v.
@@ -22,7 +23,7 @@ pub fn line_cost(
     t: &[u64],
     g: usize,
     n: usize,
-    other: bool,
+    id: ThreadId,
     start: usize,
     top: usize,
     v: usize,
@@ -30,13 +31,13 @@ pub fn line_cost(
     requires { ⌜
         (length (now t) ≡ size) × (1 ≤ g) × (g ≤ 4) × (n ≤ 2) × (start < g) × (top < 17) × (v < g ^ (2 * suc n))
         ⌝ }
-    ensures { λ r. ⌜ r ≡ costOf (idOf other) (now (t .entry)) g n start top v ⌝ }
+    ensures { λ r. ⌜ r ≡ costOf id (now (t .entry)) g n start top v ⌝ }
 {
     let len = 2 * n + 2;
-    let from = first_state(g, len, v, other, start);
-    let to = state_at(g, len, v, turn_of(other, n));
-    let a = lane_of(g, len, v, other, 0);
-    let b = lane_of(g, len, v, other, 1);
+    let from = first_state(g, len, v, id, start);
+    let to = state_at(g, len, v, turn_of(id, n));
+    let a = lane_of(g, len, v, id, 0);
+    let b = lane_of(g, len, v, id, 1);
     pair_cost(t, g, n, from, top, to, a, b)
 }
 

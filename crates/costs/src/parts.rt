@@ -1,9 +1,9 @@
 // The parts of a line, read off its value: a number whose digits are its states.
+use model::ThreadId;
 ghost use mathlib.Core.Path.{_≡_};
 ghost use Prim.Native.Nat.{_+_, _*_, _^_, _≤_, _<_};
 ghost use lib.ListN.{getD};
 ghost use Rattle.model.specs.Lines.{digits};
-ghost use Rattle.costs.specs.Cost.{idOf};
 ghost use Rattle.costs.specs.Ends.{turnOf, firstState};
 ghost use Rattle.costs.specs.Lanes.{lineLane};
 
@@ -34,26 +34,32 @@ pub fn state_at(g: usize, len: usize, v: usize, j: usize) -> usize
 }
 
 // The number of a thread's own turn j.
-pub fn turn_of(other: bool, j: usize) -> usize
+pub fn turn_of(id: ThreadId, j: usize) -> usize
     requires { ⌜ j ≤ 2 ⌝ }
-    ensures { λ r. ⌜ (r ≡ turnOf (idOf other) j) × (r ≤ 5) ⌝ }
+    ensures { λ r. ⌜ (r ≡ turnOf id j) × (r ≤ 5) ⌝ }
 {
-    if other { 2 * j + 1 } else { 2 * j }
+    match id {
+        ThreadId::A => 2 * j,
+        ThreadId::B => 2 * j + 1,
+    }
 }
 
 // The lane of a thread's turn end j along a line.
-pub fn lane_of(g: usize, len: usize, v: usize, other: bool, j: usize) -> usize
+pub fn lane_of(g: usize, len: usize, v: usize, id: ThreadId, j: usize) -> usize
     requires { ⌜ (1 ≤ g) × (g ≤ 4) × (len ≤ 6) × (v < g ^ len) × (j ≤ 2) ⌝ }
-    ensures { λ r. ⌜ (r ≡ lineLane (idOf other) g len v j) × (r < 16) ⌝ }
+    ensures { λ r. ⌜ (r ≡ lineLane id g len v j) × (r < 16) ⌝ }
 {
-    let turn = turn_of(other, j);
+    let turn = turn_of(id, j);
     state_at(g, len, v, turn) * 4 + state_at(g, len, v, turn + 1)
 }
 
 // The state in which a thread's first turn along a line starts.
-pub fn first_state(g: usize, len: usize, v: usize, other: bool, start: usize) -> usize
+pub fn first_state(g: usize, len: usize, v: usize, id: ThreadId, start: usize) -> usize
     requires { ⌜ (1 ≤ g) × (g ≤ 4) × (len ≤ 6) × (v < g ^ len) × (start < g) ⌝ }
-    ensures { λ r. ⌜ (r ≡ firstState (idOf other) start (digits g len v)) × (r < g) ⌝ }
+    ensures { λ r. ⌜ (r ≡ firstState id start (digits g len v)) × (r < g) ⌝ }
 {
-    if other { state_at(g, len, v, 0) } else { start }
+    match id {
+        ThreadId::A => start,
+        ThreadId::B => state_at(g, len, v, 0),
+    }
 }

@@ -10,7 +10,8 @@ use Rattle.model.specs.Fits.{Fits}
 use Rattle.model.specs.Lines.{States, lastOf, value, digits}
 use Rattle.model.specs.Runs.{Reaches, Turns}
 use Rattle.model.specs.Verdict.{clear, long, found, Judged}
-use Rattle.model.specs.Walk.{A, B, startStacks, Step}
+use Rattle.model.specs.declared.ThreadId.the-variants.{A, B}
+use Rattle.model.specs.Walk.{startStacks, Step}
 use Rattle.model.proofs.Inside.{inside}
 use Rattle.model.proofs.Positions.{length-digits, digits-value}
 use Rattle.model.proofs.Ranges.{valid-fits}

@@ -15,7 +15,8 @@ use Rattle.model.specs.Results.{refuse}
 use Rattle.model.specs.Runs.{Reaches, Turns}
 use Rattle.model.specs.Schedules.{Stored}
 use Rattle.model.specs.Valid.{Valid}
-use Rattle.model.specs.Walk.{A, B, startStacks}
+use Rattle.model.specs.Walk.{startStacks}
+use Rattle.model.specs.declared.ThreadId.the-variants.{A, B}
 use Rattle.model.proofs.Ranges.{valid-fits}
 use Rattle.model.proofs.Stores.{stored-front}
 use Rattle.reach.specs.Answer.{lineRefusal}

@@ -13,7 +13,9 @@ use Rattle.model.specs.Rules.{applies}
 use Rattle.model.specs.Runs.{Leads, Reaches}
 use Rattle.model.specs.Valid.{SameThread, Same, Valid}
 use Rattle.model.specs.Verdict.{Verdict, clear, long, found, AtLeast, Judged}
-use Rattle.model.specs.Walk.{ThreadId, A, B, ownerOf, threadOf, stackOf}
+use Rattle.model.specs.declared.ThreadId.{ThreadId}
+use Rattle.model.specs.declared.ThreadId.the-variants.{A, B}
+use Rattle.model.specs.Walk.{ownerOf, threadOf, stackOf}
 use Rattle.model.specs.Walk.{Config, startOf, Step, turnFits, fire, stepFrom, walk}
 use Rattle.model.specs.Fits.{ThreadFits}
 use Rattle.model.proofs.Ranges.{valid-fits}

@@ -12,7 +12,9 @@ use Rattle.model.specs.Lines.{States, Line}
 use Rattle.model.specs.Rules.{ruleAt, applies}
 use Rattle.model.specs.Runs.{Turns, stop, end, move, Marked}
 use Rattle.model.specs.Valid.{Valid}
-use Rattle.model.specs.Walk.{ThreadId, A, B, ownerOf, threadOf, Stacks, Step}
+use Rattle.model.specs.declared.ThreadId.{ThreadId}
+use Rattle.model.specs.declared.ThreadId.the-variants.{A, B}
+use Rattle.model.specs.Walk.{ownerOf, threadOf, Stacks, Step}
 use Rattle.model.specs.Fits.{ThreadFits, Fits}
 use Rattle.model.proofs.Ranges.{valid-fits}
 use Rattle.model.proofs.Tests.{tests}

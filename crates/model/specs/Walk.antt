@@ -7,11 +7,9 @@ use Rattle.model.specs.declared.Model.{Model}
 use Rattle.model.specs.declared.Rule.{Rule}
 use Rattle.model.specs.declared.Thread.{Thread}
 use Rattle.model.specs.Results.{Result, refused, accepted, need, andThen}
+use Rattle.model.specs.declared.ThreadId.{ThreadId}
+use Rattle.model.specs.declared.ThreadId.the-variants.{A, B}
 use Rattle.model.specs.Rules.{ruleAt, applies, put}
-
--- The two threads.
-pub data ThreadId : Type 0 where
-  A B : ThreadId
 
 -- The other thread.
 abbrev pub other : ThreadId → ThreadId

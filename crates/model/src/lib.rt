@@ -32,6 +32,12 @@ pub struct Thread {
     pub rules: [Rule; 64],
 }
 
+// The two threads. Even turns are A's, odd ones B's.
+pub enum ThreadId {
+    A,
+    B,
+}
+
 // G shared states, K rounds, the start and target states, and the two threads.
 pub struct Model {
     pub g: u8,

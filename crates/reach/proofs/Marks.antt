@@ -9,7 +9,9 @@ use lib.ListN.{length, getD, replicate, length-append, length-replicate}
 use Rattle.model.specs.declared.Model.{Model}
 use Rattle.model.specs.Lines.{bits, States, Line, lastOf, value, digits, lineAt}
 use Rattle.model.specs.Runs.{Marked}
-use Rattle.model.specs.Walk.{ThreadId, A, B, threadOf}
+use Rattle.model.specs.declared.ThreadId.{ThreadId}
+use Rattle.model.specs.declared.ThreadId.the-variants.{A, B}
+use Rattle.model.specs.Walk.{threadOf}
 use Rattle.model.proofs.Positions.{value-below, length-digits, digits-value, line-at}
 use Rattle.model.proofs.Turns.{marked-padded}
 use Rattle.reach.specs.Answer.{LineTable}

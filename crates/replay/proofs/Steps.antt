@@ -8,8 +8,9 @@ use borrow.Author.Tests.{le-ltb, lt-ltb, le-leb, lt-leb}
 use Rattle.model.specs.declared.Model.{Model}
 use Rattle.model.specs.Results.{refused, accepted, need}
 use Rattle.model.specs.Rules.{applies}
-use Rattle.model.specs.Walk.{ThreadId, A, B, ownerOf, threadOf, stackOf, withStack, Config, Step}
-use Rattle.model.specs.Walk.{Walked, turnFits, fire, stepFrom}
+use Rattle.model.specs.Walk.{ownerOf, threadOf, stackOf, withStack, Config, Step, Walked, turnFits, fire, stepFrom}
+use Rattle.model.specs.declared.ThreadId.{ThreadId}
+use Rattle.model.specs.declared.ThreadId.the-variants.{A, B}
 use Rattle.replay.specs.Stack.{Moved, stuck, moved, moveOf}
 
 -- Even turns are A's ..

@@ -11,7 +11,9 @@ use Rattle.model.specs.Fits.{Fits}
 use Rattle.model.specs.Lines.{powers}
 use Rattle.model.specs.Results.{accepted}
 use Rattle.model.specs.Runs.{Leads}
-use Rattle.model.specs.Walk.{ThreadId, A, B, ownerOf, threadOf, Config, Step, stepFrom, walk}
+use Rattle.model.specs.Walk.{ownerOf, threadOf, Config, Step, stepFrom, walk}
+use Rattle.model.specs.declared.ThreadId.{ThreadId}
+use Rattle.model.specs.declared.ThreadId.the-variants.{A, B}
 use Rattle.model.proofs.Inside.{applies-iff}
 use Rattle.model.proofs.Results.{through}
 use Rattle.model.proofs.Steps.{stepped}

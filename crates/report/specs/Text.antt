@@ -4,7 +4,9 @@ use mathlib.Core.List.{List, [], _∷_, _++_}
 use Prim.Native.Nat.{ℕ, zero, suc, _+_, _/_, _%_, _^_}
 use lib.Dec.{ltb}
 use Rattle.model.specs.Bits.{oneIf}
-use Rattle.model.specs.Walk.{ThreadId, A, B, ownerOf, Step}
+use Rattle.model.specs.declared.ThreadId.{ThreadId}
+use Rattle.model.specs.declared.ThreadId.the-variants.{A, B}
+use Rattle.model.specs.Walk.{ownerOf, Step}
 
 -- A number in base ten without leading zeros, where it has no more digits than `places`.
 unfoldable pub decimalIn : ℕ → ℕ → List ℕ

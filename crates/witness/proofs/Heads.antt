@@ -12,7 +12,8 @@ use Rattle.model.specs.declared.Thread.{Thread}
 use Rattle.model.specs.Fits.{RuleFits, ThreadFits}
 use Rattle.model.specs.Lines.{States}
 use Rattle.model.specs.Rules.{ruleAt}
-use Rattle.model.specs.Walk.{ThreadId, A, B}
+use Rattle.model.specs.declared.ThreadId.{ThreadId}
+use Rattle.model.specs.declared.ThreadId.the-variants.{A, B}
 use Rattle.summary.specs.Control.{TurnEnd}
 use Rattle.costs.specs.Ends.{turnOf, endsOf}
 use Rattle.witness.specs.Plan.{planSize, endsIn, ruleIn, headBytes, InRange, Planned}

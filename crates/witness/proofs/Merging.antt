@@ -11,7 +11,9 @@ use lib.Dec.{leb}
 use lib.ListN.{length}
 use Rattle.model.specs.declared.Model.{Model}
 use Rattle.model.specs.Runs.{Turns, stop, end, move}
-use Rattle.model.specs.Walk.{ThreadId, A, B, ownerOf, Stacks, Step}
+use Rattle.model.specs.declared.ThreadId.{ThreadId}
+use Rattle.model.specs.declared.ThreadId.the-variants.{A, B}
+use Rattle.model.specs.Walk.{ownerOf, Stacks, Step}
 use Rattle.costs.specs.View.{View, stop, skip, end, move}
 use Rattle.costs.proofs.Views.{Merged, none, left, right, merged-views}
 use Rattle.witness.specs.Merge.{merge}

@@ -11,7 +11,8 @@ use Rattle.model.specs.declared.Thread.{Thread}
 use Rattle.model.specs.Fits.{ThreadFits}
 use Rattle.model.specs.Lines.{States, digits}
 use Rattle.model.specs.Schedules.{Stored}
-use Rattle.model.specs.Walk.{ThreadId, Step}
+use Rattle.model.specs.declared.ThreadId.{ThreadId}
+use Rattle.model.specs.Walk.{Step}
 use Rattle.costs.specs.Cost.{control, through, pairCost, RunAlong, LeastAlong}
 use Rattle.costs.specs.Ends.{turnOf, endsOf, firstState, lastState}
 use Rattle.costs.proofs.Along.{ends-inside}

@@ -10,7 +10,9 @@ use Rattle.model.specs.declared.Model.{Model}
 use Rattle.model.specs.Lines.{digits}
 use Rattle.model.specs.Runs.{Turns}
 use Rattle.model.specs.Schedules.{bytesOf, stepsOf, Stored}
-use Rattle.model.specs.Walk.{ThreadId, A, B, threadOf, startStacks}
+use Rattle.model.specs.declared.ThreadId.{ThreadId}
+use Rattle.model.specs.declared.ThreadId.the-variants.{A, B}
+use Rattle.model.specs.Walk.{threadOf, startStacks}
 use Rattle.model.proofs.Positions.{length-digits}
 use Rattle.model.proofs.Stores.{stored-steps}
 use Rattle.costs.specs.Cost.{RunAlong, LeastAlong, ViewCost}

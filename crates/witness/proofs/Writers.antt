@@ -10,7 +10,9 @@ use Rattle.model.specs.declared.Right.the-variants.{Remove, Swap, Push}
 use Rattle.model.specs.declared.Rule.{Rule}
 use Rattle.model.specs.declared.Symbol.{Symbol}
 use Rattle.model.specs.Schedules.{bytesOf, Stored}
-use Rattle.model.specs.Walk.{ThreadId, A, B, Step}
+use Rattle.model.specs.declared.ThreadId.{ThreadId}
+use Rattle.model.specs.declared.ThreadId.the-variants.{A, B}
+use Rattle.model.specs.Walk.{Step}
 use Rattle.model.proofs.Inside.{applies-iff}
 use Rattle.model.proofs.Stores.{sets-append, length-bytes, bytes-append}
 use Rattle.costs.specs.Cost.{control}

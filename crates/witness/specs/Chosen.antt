@@ -2,7 +2,7 @@
 use Prim.Native.Nat.{ℕ, _+_, _*_, _^_, _≤_, _<_}
 use Rattle.model.specs.declared.Model.{Model}
 use Rattle.model.specs.Lines.{digits}
-use Rattle.model.specs.Walk.{A, B}
+use Rattle.model.specs.declared.ThreadId.the-variants.{A, B}
 use Rattle.costs.specs.Cost.{ViewCost}
 
 -- A full line, by its value, and the least steps of each thread along it: together no more than a schedule has room for.

@@ -9,7 +9,8 @@ use Rattle.model.specs.declared.Right.{Right}
 use Rattle.model.specs.declared.Right.the-variants.{Remove, Swap, Push}
 use Rattle.model.specs.declared.Rule.{Rule}
 use Rattle.model.specs.declared.Symbol.{Symbol}
-use Rattle.model.specs.Walk.{ThreadId, Step}
+use Rattle.model.specs.declared.ThreadId.{ThreadId}
+use Rattle.model.specs.Walk.{Step}
 use Rattle.costs.specs.Ends.{turnOf, firstState, lastState}
 use Rattle.summary.specs.Cells.{size}
 use Rattle.summary.specs.Control.{Control, Moves, Switches, dest, placeOf, InTable}

@@ -12,7 +12,7 @@ use Rattle.model.specs.declared.Rule.{Rule}
 use Rattle.model.specs.declared.Thread.{Thread}
 use Rattle.model.specs.Fits.{RuleFits, ThreadFits}
 use Rattle.model.specs.Rules.{ruleAt}
-use Rattle.model.specs.Walk.{ThreadId}
+use Rattle.model.specs.declared.ThreadId.{ThreadId}
 use Rattle.costs.specs.Ends.{turnOf, endsOf}
 use Rattle.summary.specs.Cells.{size}
 use Rattle.summary.specs.Control.{TurnEnd, Inside, Summed}

@@ -18,6 +18,7 @@ mod stretch;
 mod tight;
 
 use model::Model;
+use model::ThreadId;
 
 // Writes a shortest schedule along the full line whose value is v, where x and y are the least steps of A and of B along it.
 pub fn write(m: Model, v: usize, x: u64, y: u64, schedule: &mut [u8])
@@ -32,8 +33,8 @@ pub fn write(m: Model, v: usize, x: u64, y: u64, schedule: &mut [u8])
     let start = m.start.0 as usize;
     let mut a = [0u8; 8190];
     let mut b = [0u8; 8190];
-    steps::steps(m.a, g, n, false, start, v, x as usize, &mut a);
-    steps::steps(m.b, g, n, true, start, v, y as usize, &mut b);
+    steps::steps(m.a, g, n, ThreadId::A, start, v, x as usize, &mut a);
+    steps::steps(m.b, g, n, ThreadId::B, start, v, y as usize, &mut b);
     let end_a = 2 * x as usize;
     let end_b = 2 * y as usize;
     merge::merge(&a[..end_a], &b[..end_b], schedule);

@@ -7,6 +7,7 @@ use model::Rule;
 use model::Shared;
 use model::Symbol;
 use model::Thread;
+use model::ThreadId;
 ghost use mathlib.Core.List.{[], _∷_};
 ghost use mathlib.Core.Path.{_≡_};
 ghost use Prim.Native.Nat.{ℕ, suc, _+_, _*_, _^_, _≤_, _<_};
@@ -15,7 +16,6 @@ ghost use lib.Seq.{sets};
 ghost use Rattle.model.specs.Fits.{ThreadFits};
 ghost use Rattle.model.specs.Lines.{digits};
 ghost use Rattle.model.specs.Rules.{ruleAt};
-ghost use Rattle.costs.specs.Cost.{idOf};
 ghost use Rattle.costs.specs.Ends.{endsOf};
 ghost use Rattle.witness.specs.Plan.{planSize, statesIn, endsIn, rightIn, ruleIn, ruleBytes, headBytes, InRange, Planned};
 
@@ -62,32 +62,32 @@ fn right_of(kind: u8, a: u8, b: u8) -> Right
 }
 
 // The plan of a thread along the full line whose value is v, with n turn ends.
-pub fn make(plan: &mut [u8], th: Thread, g: usize, n: usize, other: bool, v: usize)
+pub fn make(plan: &mut [u8], th: Thread, g: usize, n: usize, id: ThreadId, v: usize)
     requires { ⌜
         (length (now plan) ≡ planSize) × (1 ≤ g) × (g ≤ 4) × (n ≤ 2) × (v < g ^ (2 * suc n)) × ThreadFits g th
         ⌝ }
     ensures range { λ _. ⌜ InRange (now (plan .exit)) ⌝ }
-    ensures planned { λ _. ⌜ Planned th (idOf other) (now (plan .exit)) ⌝ }
+    ensures planned { λ _. ⌜ Planned th id (now (plan .exit)) ⌝ }
     ensures states { λ _. ⌜ statesIn (now (plan .exit)) ≡ g ⌝ }
     ensures ends { λ _. ⌜
-        ((j : ℕ) → j < n → endsIn (now (plan .exit)) j ≡ endsOf (idOf other) (digits g (2 * suc n) v) j)
+        ((j : ℕ) → j < n → endsIn (now (plan .exit)) j ≡ endsOf id (digits g (2 * suc n) v) j)
         ⌝ }
 {
-    put_head(plan, th.count, g, n, other, v);
+    put_head(plan, th.count, g, n, id, v);
     put_rules(plan, th);
 }
 
 // The first seven bytes of a plan.
-fn put_head(plan: &mut [u8], count: usize, g: usize, n: usize, other: bool, v: usize)
+fn put_head(plan: &mut [u8], count: usize, g: usize, n: usize, id: ThreadId, v: usize)
     requires { ⌜
         (7 ≤ length (now plan)) × (count ≤ 64) × (1 ≤ g) × (g ≤ 4) × (n ≤ 2) × (v < g ^ (2 * suc n))
         ⌝ }
     ensures { λ _. ⌜
-        now (plan .exit) ≡ sets (now (plan .entry)) 0 (headBytes (idOf other) g (digits g (2 * suc n) v) count)
+        now (plan .exit) ≡ sets (now (plan .entry)) 0 (headBytes id g (digits g (2 * suc n) v) count)
         ⌝ }
 {
-    let a = turn_of(other, 0);
-    let b = turn_of(other, 1);
+    let a = turn_of(id, 0);
+    let b = turn_of(id, 1);
     put_three(plan, 0, g as u8, a as u8, state_byte(g, n, v, a));
     put_three(
         plan,

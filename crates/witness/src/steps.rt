@@ -9,13 +9,14 @@ use costs::parts::first_state;
 use costs::parts::state_at;
 use costs::parts::turn_of;
 use model::Thread;
+use model::ThreadId;
 ghost use mathlib.Core.Path.{_≡_};
 ghost use Prim.Native.Nat.{suc, _*_, _^_, _≤_, _<_};
 ghost use lib.ListN.{length};
 ghost use Rattle.model.specs.Fits.{ThreadFits};
 ghost use Rattle.model.specs.Lines.{digits};
 ghost use Rattle.model.specs.Schedules.{Stored};
-ghost use Rattle.costs.specs.Cost.{idOf, RunAlong, LeastAlong};
+ghost use Rattle.costs.specs.Cost.{RunAlong, LeastAlong};
 ghost use Rattle.summary.specs.Cells.{size};
 ghost use Rattle.witness.specs.Goals.{Starts};
 ghost use Rattle.witness.specs.Plan.{Known};
@@ -25,7 +26,7 @@ pub fn steps(
     th: Thread,
     g: usize,
     n: usize,
-    other: bool,
+    id: ThreadId,
     start: usize,
     v: usize,
     count: usize,
@@ -33,26 +34,26 @@ pub fn steps(
 )
     requires { ⌜ (1 ≤ g) × (g ≤ 4) × (n ≤ 2) × (start < g) × (v < g ^ (2 * suc n)) × ThreadFits g th ⌝
         ∗ ⌜
-        LeastAlong th (idOf other) n start (digits g (2 * suc n) v) count × (count ≤ 4095) × (2 * count ≤ length (now out))
+        LeastAlong th id n start (digits g (2 * suc n) v) count × (count ≤ 4095) × (2 * count ≤ length (now out))
         ⌝ }
     ensures { λ _. ⌜
-        Stored (RunAlong th (idOf other) n start (digits g (2 * suc n) v)) count 0 (now (out .entry)) (now (out .exit))
+        Stored (RunAlong th id n start (digits g (2 * suc n) v)) count 0 (now (out .entry)) (now (out .exit))
         ⌝ }
 {
     let mut table = [0u64; 17952];
     let mut plan = [0u8; 392];
-    prepare(&mut table, &mut plan, th, g, n, other, v);
-    let goal = start_goal(g, n, other, start, v, th.first.0 as usize);
+    prepare(&mut table, &mut plan, th, g, n, id, v);
+    let goal = start_goal(g, n, id, start, v, th.first.0 as usize);
     pair(&table, &plan, goal, 16, count, out, 0);
 }
 
 // The plan of a thread along a line, and the table solved for the line's turn ends.
-fn prepare(t: &mut [u64], plan: &mut [u8], th: Thread, g: usize, n: usize, other: bool, v: usize)
+fn prepare(t: &mut [u64], plan: &mut [u8], th: Thread, g: usize, n: usize, id: ThreadId, v: usize)
     requires { ⌜ (length (now t) ≡ size) × (length (now plan) ≡ 392) ⌝
         ∗ ⌜ (1 ≤ g) × (g ≤ 4) × (n ≤ 2) × (v < g ^ (2 * suc n)) × ThreadFits g th ⌝ }
-    ensures { λ _. ⌜ Known th (idOf other) g n (digits g (2 * suc n) v) (now (t .exit)) (now (plan .exit)) ⌝ }
+    ensures { λ _. ⌜ Known th id g n (digits g (2 * suc n) v) (now (t .exit)) (now (plan .exit)) ⌝ }
 {
-    make(plan, th, g, n, other, v);
+    make(plan, th, g, n, id, v);
     let o = byte(plan, 2);
     let i = byte(plan, 3);
     solve(t, g, n, o, i, th);
@@ -60,13 +61,13 @@ fn prepare(t: &mut [u64], plan: &mut [u8], th: Thread, g: usize, n: usize, other
 
 // From the state in which the thread's first turn starts, to the end of its last turn with something on its stack, be it the
 // floor.
-fn start_goal(g: usize, n: usize, other: bool, start: usize, v: usize, top: usize) -> Goal
+fn start_goal(g: usize, n: usize, id: ThreadId, start: usize, v: usize, top: usize) -> Goal
     requires { ⌜ (1 ≤ g) × (g ≤ 4) × (n ≤ 2) × (start < g) × (v < g ^ (2 * suc n)) ⌝ }
-    ensures { λ r. ⌜ Starts (idOf other) n start (digits g (2 * suc n) v) top g r ⌝ }
+    ensures { λ r. ⌜ Starts id n start (digits g (2 * suc n) v) top g r ⌝ }
 {
     let len = 2 * n + 2;
-    let from = first_state(g, len, v, other, start);
-    let to = state_at(g, len, v, turn_of(other, n));
+    let from = first_state(g, len, v, id, start);
+    let to = state_at(g, len, v, turn_of(id, n));
     Goal {
         passed: 0,
         shared: from,

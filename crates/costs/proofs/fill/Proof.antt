@@ -1,6 +1,5 @@
 -- `fill` meets its contract: by cases on the number of turn ends, each from a table that is exact for it.
 use borrow.Author.Needs.{needs}
-use Rattle.costs.specs.Cost.{idOf}
 use Rattle.costs.proofs.Filled.{costs-all, two}
 use Rattle.costs.proofs.fill.Statement.{statement}
 use Rattle.costs.proofs.fill.Tie as tie
@@ -25,7 +24,7 @@ returns c =
     let close-plain = c .before .before .before .before .before .before .before .before .close-plain in
     let fill-all = c .before .before .fill-all in
     let start = c .before .before .before .before .before .before .before .before .before .before .before .before .before in
-    costs-all (idOf (start .args .other)) (start .args .start) (start .pre .6) (start .pre .5) 0
+    costs-all (start .args .id) (start .args .start) (start .pre .6) (start .pre .5) 0
     (c .before .before .before .before .before .if1 .taken) (λ ends h. close-plain .ensures .1 ends) (fill-all .ensures)
 
 close-first-requires : tie.Need-close-first-requires
@@ -45,7 +44,7 @@ returns-2 c =
     let close-first = c .before .before .before .before .before .before .before .before .close-first in
     let fill-all = c .before .before .fill-all2 in
     let start = c .before .before .before .before .before .before .before .before .before .before .before .before .before .before .before .before .before .before in
-    costs-all (idOf (start .args .other)) (start .args .start) (start .pre .6) (start .pre .5) 1
+    costs-all (start .args .id) (start .args .start) (start .pre .6) (start .pre .5) 1
     (c .before .before .before .before .before .if2 .taken) (close-first .ensures .1) (fill-all .ensures)
 
 fill-ends-requires : tie.Need-fill-ends-requires

@@ -5,18 +5,17 @@ use native.Mathlib.Omega.{arith}
 use borrow.Author.Needs.{needs}
 use lib.ListN.{length}
 use Rattle.summary.specs.Cells.{second, First, Solved}
-use Rattle.costs.specs.Cost.{idOf}
 use Rattle.costs.proofs.Filled.{Known, known-none, known-fewer, known-all}
 use Rattle.costs.proofs.fill_ends.Statement.{statement}
 use Rattle.costs.proofs.fill_ends.Tie as tie
 
 abbrev Inv-loop : tie.InvT-loop
-Inv-loop t₀ costs₀ g other start th lanes o₀ t costs o =
+Inv-loop t₀ costs₀ g id start th lanes o₀ t costs o =
     (o ≤ g) × (length t ≡ length t₀) × (length costs ≡ length costs₀) × Solved (First th g) second t
-    × Known th (idOf other) g start (o * 4) costs
+    × Known th id g start (o * 4) costs
 
 abbrev μ-loop : tie.MeasureT-loop
-μ-loop t₀ costs₀ g other start th lanes o₀ t costs o = g - o
+μ-loop t₀ costs₀ g id start th lanes o₀ t costs o = g - o
 
 slice-aggregate-find-lanes : tie.Need-slice-aggregate-find-lanes Inv-loop μ-loop
 slice-aggregate-find-lanes c = search needs

@@ -5,18 +5,17 @@ use native.Mathlib.Omega.{arith}
 use borrow.Author.Needs.{needs}
 use lib.ListN.{length}
 use Rattle.summary.specs.Cells.{second, First, Solved}
-use Rattle.costs.specs.Cost.{idOf}
 use Rattle.costs.proofs.Filled.{Known, known-fewer, known-next, known-left}
 use Rattle.costs.proofs.fill_from.Statement.{statement}
 use Rattle.costs.proofs.fill_from.Tie as tie
 
 abbrev Inv-loop : tie.InvT-loop
-Inv-loop t₀ costs₀ lanes g other start o th top i₀ t costs i =
+Inv-loop t₀ costs₀ lanes g id start o th top i₀ t costs i =
     (i ≤ g) × (length t ≡ length t₀) × (length costs ≡ length costs₀) × Solved (First th g) second t
-    × Known th (idOf other) g start (o * 4 + i) costs
+    × Known th id g start (o * 4 + i) costs
 
 abbrev μ-loop : tie.MeasureT-loop
-μ-loop t₀ costs₀ lanes g other start o th top i₀ t costs i = g - i
+μ-loop t₀ costs₀ lanes g id start o th top i₀ t costs i = g - i
 
 cast-top : tie.Need-cast-top Inv-loop μ-loop
 cast-top c = search needs

@@ -2,17 +2,16 @@
 use borrow.Author.Needs.{needs}
 use mathlib.Core.Path.{_≡_}
 use Prim.Native.Nat.{_-_, _≤_}
-use Rattle.costs.specs.Cost.{idOf}
 use Rattle.costs.specs.Lanes.{lineLane}
 use Rattle.costs.proofs.Front.{Front, front-start, front-next, front-all}
 use Rattle.costs.proofs.find_lanes.Statement.{statement}
 use Rattle.costs.proofs.find_lanes.Tie as tie
 
 abbrev Inv-loop : tie.InvT-loop
-Inv-loop lanes₀ g other count v₀ lanes v = (v ≤ count) × Front (λ v x. x ≡ lineLane (idOf other) g 6 v 0) v lanes₀ lanes
+Inv-loop lanes₀ g id count v₀ lanes v = (v ≤ count) × Front (λ v x. x ≡ lineLane id g 6 v 0) v lanes₀ lanes
 
 abbrev μ-loop : tie.MeasureT-loop
-μ-loop lanes₀ g other count v₀ lanes v = count - v
+μ-loop lanes₀ g id count v₀ lanes v = count - v
 
 power-requires : tie.Need-power-requires Inv-loop μ-loop
 power-requires c κs = search needs

@@ -4,7 +4,7 @@ use Prim.Native.Nat.{_*_}
 use native.Mathlib.Omega.{arith}
 use lib.Seq.{length-take-le}
 use borrow.Author.Needs.{needs}
-use Rattle.model.specs.Walk.{A, B}
+use Rattle.model.specs.declared.ThreadId.the-variants.{A, B}
 use Rattle.witness.proofs.Whole.{fronts-fit, cost-along, line-low, written}
 use Rattle.witness.proofs.write.Statement.{statement}
 use Rattle.witness.proofs.write.Tie as tie

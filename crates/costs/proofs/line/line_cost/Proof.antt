@@ -1,7 +1,6 @@
 -- `line_cost` meets its contract: it reads the parts of the line off its value, and `pair_cost` the cost off those.
 use native.Mathlib.Omega.{arith}
 use borrow.Author.Needs.{needs}
-use Rattle.costs.specs.Cost.{idOf}
 use Rattle.costs.proofs.Values.{full-value, line-costed}
 use Rattle.costs.proofs.line.line_cost.Statement.{statement}
 use Rattle.costs.proofs.line.line_cost.Tie as tie
@@ -43,7 +42,7 @@ returns c =
     let ends = c .before .before in
     let turn = ends .before .before in
     let args = turn .before .before .before .args in
-    line-costed (idOf (args .other)) _ _ _ (args .start) _ _ (turn .before .first-state .ensures .0) (turn .turn-of .ensures .0) (ends .before .state-at .ensures .0)
+    line-costed (args .id) _ _ _ (args .start) _ _ (turn .before .first-state .ensures .0) (turn .turn-of .ensures .0) (ends .before .state-at .ensures .0)
     (ends .lane-of .ensures .0) (c .before .lane-of2 .ensures .0) (c .pair-cost .ensures)
 
 pub line-cost-spec : {M : Type 1} → statement M

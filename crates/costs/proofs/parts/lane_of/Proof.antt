@@ -2,7 +2,6 @@
 use borrow.Author.Needs.{needs}
 use Rattle.model.specs.Lines.{digits}
 use Rattle.costs.proofs.Entries.{lane-made}
-use Rattle.costs.specs.Cost.{idOf}
 use Rattle.costs.proofs.parts.lane_of.Statement.{statement}
 use Rattle.costs.proofs.parts.lane_of.Tie as tie
 
@@ -27,7 +26,7 @@ add-result c = search needs
 returns : tie.Need-returns
 returns c =
     let a = c .before .before .before .args in (
-      lane-made (idOf (a .other)) (digits (a .g) (a .len) (a .v)) (a .j) _ _ _ (c .before .before .turn-of .ensures .0) (c .before .state-at .ensures .0)
+      lane-made (a .id) (digits (a .g) (a .len) (a .v)) (a .j) _ _ _ (c .before .before .turn-of .ensures .0) (c .before .state-at .ensures .0)
           (c .state-at2 .ensures .0),
       search needs,
     )

@@ -3,7 +3,7 @@
 use mathlib.Core.Path.{refl}
 use native.Mathlib.Omega.{arith}
 use borrow.Author.Needs.{needs}
-use Rattle.model.specs.Walk.{A, B}
+use Rattle.model.specs.declared.ThreadId.the-variants.{A, B}
 use Rattle.replay.proofs.Steps.{even-turn, odd-turn, falls, late, comes}
 use Rattle.replay.proofs.Walk.step.Statement.{statement}
 use Rattle.replay.proofs.Walk.step.Tie as tie

@@ -4,7 +4,6 @@ use native.Mathlib.Omega.{arith}
 use borrow.Author.Needs.{needs}
 use Rattle.model.specs.Lines.{digits}
 use Rattle.model.proofs.Positions.{digits-states}
-use Rattle.costs.specs.Cost.{idOf}
 use Rattle.witness.proofs.Heads.{made, planned, ends-made, in-range}
 use Rattle.witness.proofs.plan.make.Statement.{statement}
 use Rattle.witness.proofs.plan.make.Tie as tie
@@ -22,7 +21,7 @@ returns : tie.Need-returns
 returns c =
     let s = c .before .before .before .before .before .before .before .before .before in
     let a = s .args in
-    let m = made (a .th) (idOf (a .other)) (a .g) (digits (a .g) (2 * suc (a .n)) (a .v)) (a .plan .now) _ _ (s .pre .0)
+    let m = made (a .th) (a .id) (a .g) (digits (a .g) (2 * suc (a .n)) (a .v)) (a .plan .now) _ _ (s .pre .0)
     (search needs) (c .before .before .before .before .before .before .put-head .ensures) (c .before .before .put-rules .ensures .1)
     (c .before .before .put-rules .ensures .0) in (
       in-range m (s .pre .1) (s .pre .2) (digits-states _ _ _ (s .pre .4)) (s .pre .5),

@@ -3,7 +3,6 @@ use Prim.Native.Nat.{suc, _*_}
 use borrow.Author.Needs.{needs}
 use lib.ListN.{length-set}
 use Rattle.model.specs.Lines.{digits}
-use Rattle.costs.specs.Cost.{idOf}
 use Rattle.witness.proofs.Heads.{head-stored}
 use Rattle.witness.proofs.plan.put_head.Statement.{statement}
 use Rattle.witness.proofs.plan.put_head.Tie as tie
@@ -58,7 +57,7 @@ returns c =
     let first = c .before .before .before .before .before .before .before .before .before in
     let turns = first .before .before .before in
     let a = turns .before .before .before .args in
-    head-stored (idOf (a .other)) (a .plan .now) (a .g) (digits (a .g) (2 * suc (a .n)) (a .v)) (a .count) _
+    head-stored (a .id) (a .plan .now) (a .g) (digits (a .g) (2 * suc (a .n)) (a .v)) (a .count) _
     (turns .before .turn-of .ensures .0) (turns .turn-of2 .ensures .0) (first .before .state-byte .ensures)
     (c .before .before .before .before .before .state-byte2 .ensures) (c .before .before .before .before .state-byte3 .ensures)
     (c .before .before .before .state-byte4 .ensures) (first .put-three .ensures) (c .before .before .put-three2 .ensures)

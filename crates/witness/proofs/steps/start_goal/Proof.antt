@@ -1,7 +1,6 @@
 -- `start_goal` meets its contract: the line's states are read off its value.
 use native.Mathlib.Omega.{arith}
 use borrow.Author.Needs.{needs}
-use Rattle.costs.specs.Cost.{idOf}
 use Rattle.costs.proofs.Values.{full-value}
 use Rattle.witness.proofs.Threads.{starts}
 use Rattle.witness.proofs.steps.start_goal.Statement.{statement}
@@ -32,7 +31,7 @@ add-t10 c = search needs
 returns : tie.Need-returns
 returns c =
     let a = c .before .before .before .args in
-    starts (idOf (a .other)) (a .n) (a .start) (a .g) (a .v) (a .top) (c .before .before .first-state .ensures .0)
+    starts (a .id) (a .n) (a .start) (a .g) (a .v) (a .top) (c .before .before .first-state .ensures .0)
     (c .before .before .first-state .ensures .1) (c .before .turn-of .ensures .0) (c .state-at .ensures .0)
     (c .state-at .ensures .1)
 
