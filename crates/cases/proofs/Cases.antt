@@ -9,7 +9,7 @@ use lib.Dec.{T, leb, eqb}
 use lib.ListN.{length, getD}
 use Rattle.model.specs.declared.Model.{Model}
 use Rattle.model.specs.declared.Shared.{Shared}
-use Rattle.model.specs.Lines.{powers, lineFrom, digits}
+use Rattle.model.specs.Lines.{powers, digits}
 use Rattle.model.specs.Results.{refused, accepted, firstOf}
 use Rattle.model.specs.Rules.{applies}
 use Rattle.model.specs.Schedules.{stepsOf}
@@ -30,7 +30,7 @@ use Rattle.cases.specs.Claims.{Table, ungiven, given, Answer, Refused, C
 use Rattle.cases.proofs.Explored.{grow, explored, closed}
 use Rattle.cases.proofs.Places.{Place, next}
 use Rattle.cases.proofs.Search.{finds}
-use Rattle.cases.proofs.Told.{avoids, delays, absent, followed, bitRight, drawn, avoids-clear, delays-least, drawn-lines}
+use Rattle.cases.proofs.Told.{avoids, delays, absent, followed, bitRight, bitsRight, drawn, avoids-clear, delays-least, drawn-lines}
 
 -- The bytes of a line table, if they are given, are right.
 abbrev linesRight : Model → List Place → Table → Bool
@@ -127,7 +127,7 @@ unfolding holds
 claimed c t = come (c .bytes) (readOf (c .bytes)) refl (c .answer) t
 
 all-hold : T (every (λ i. holds) cases)
-unfolding cases holds comes judges readOf front head byte ranged field right rule ruleList rules explored grow closed next avoids delays absent followed bitRight drawn finds powers lineFrom digits applies replayOf stepsOf sizeFits walk stepFrom fire turnFits faultOf headFault threadFault ruleFault rightFault symbolFault firstOf
+unfolding cases holds comes judges readOf front head byte ranged field right rule ruleList rules explored grow closed next avoids delays absent followed bitRight bitsRight drawn finds powers digits applies replayOf stepsOf sizeFits walk stepFrom fire turnFits faultOf headFault threadFault ruleFault rightFault symbolFault firstOf
 all-hold = tt
 
 -- Every case of the table has its claims.

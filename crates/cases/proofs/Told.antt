@@ -1,23 +1,22 @@
 -- What a closed set of places tells of a model: Clear, or how many steps reach the target at least, and which lines are not
 -- marked. A run that reaches the target is one along a full line that ends there, so it is at a place of the set.
 use mathlib.Core.Bool.{Bool, true, false, _&&_, _||_, not, cond}
-use mathlib.Core.List.{List}
+use mathlib.Core.List.{List, [], _∷_}
 use mathlib.Core.Logic.{_↔_, inl, inr}
 use mathlib.Core.Path.{_≡_, refl, sym, _∙_}
-use Prim.Native.Nat.{ℕ, _+_, _*_, _<_, _≤_}
+use Prim.Native.Nat.{ℕ, suc, _+_, _*_, _^_, _<_, _≤_}
 use native.Mathlib.Omega.{arith}
 use lib.Dec.{T, T-not, leb, ltb, eqb, ltb→lt}
 use lib.ListN.{length, replicate, length-replicate, drop-of-length-le}
 use Rattle.model.specs.declared.Model.{Model}
-use Rattle.model.specs.Lines.{bits, lineAt}
+use Rattle.model.specs.Lines.{Line, powers, bits, value, position, digits}
 use Rattle.model.specs.Runs.{Reaches, Marked}
+use Rattle.model.specs.Tables.{bitAt, bytesFor, LineTable}
 use Rattle.model.specs.Verdict.{clear, Judged, AtLeast}
 use Rattle.model.specs.Walk.{Stacks, startStacks, Step}
-use Rattle.model.proofs.Positions.{line-at}
+use Rattle.model.proofs.Positions.{value-below, digits-value}
 use Rattle.model.proofs.Tests.{both, order, equal}
 use Rattle.model.proofs.Turns.{legal-full}
-use Rattle.reach.specs.Answer.{LineTable}
-use Rattle.reach.specs.Bits.{bitAt, bytesFor}
 use Rattle.cases.proofs.Explored.{closed, arrives, At, passes}
 use Rattle.cases.proofs.Places.{Place}
 use Rattle.cases.proofs.Scans.{either, all, alike, alike-refl, below, at-below}
@@ -43,17 +42,21 @@ absent set line = all (λ c. not (alike (c .line) line)) set
 unfoldable pub followed : Model → List ℕ → Bool
 followed m line = finds (2 * m .k + 2) m 0 (m .start .0) (startStacks m) line
 
--- The bit at a place of a store is right: where it stands a run is found, and where not the line is absent.
-unfoldable pub bitRight : Model → List Place → List ℕ → ℕ → Bool
-bitRight m set store p =
-    let run = followed m (lineAt (m .g) (m .k) p) in
-    let none = absent set (lineAt (m .g) (m .k) p) in
-    cond (bitAt store p) run none
+-- The bit of the line of n + 1 states whose value is v is right: where it stands a run is found, and where not the line is absent.
+unfoldable pub bitRight : Model → List Place → List ℕ → ℕ → ℕ → Bool
+bitRight m set store n v =
+    let run = followed m (digits (m .g) (suc n) v) in
+    let none = absent set (digits (m .g) (suc n) v) in
+    cond (bitAt store (powers (m .g) n + v)) run none
+
+-- So are those of all lines.
+unfoldable pub bitsRight : Model → List Place → List ℕ → Bool
+bitsRight m set store = below (2 * m .k) (λ n. below (m .g ^ suc n) (bitRight m set store n))
 
 -- A store is the line table by its length, its bits and its spare bits.
 unfoldable pub drawn : Model → List Place → List ℕ → Bool
 drawn m set store =
-    eqb (length store) (bytesFor (m .g) (m .k)) && below (bits (m .g) (m .k)) (bitRight m set store) &&
+    eqb (length store) (bytesFor (m .g) (m .k)) && bitsRight m set store &&
     below (8 * bytesFor (m .g) (m .k)) (λ p. ltb p (bits (m .g) (m .k)) || not (bitAt store p))
 
 -- A test that chooses between a thing's proof and its refutation decides it.
@@ -99,14 +102,19 @@ module _ (m : Model) (limit : ℕ) (set : List Place) (t : T (closed m limit set
       let c = passes (λ c. not (alike (c .line) line)) (z .1) a in
       T-not (alike (c .0 .line) line) (c .1) (rw (c .2 .line) (alike-refl line))
 
-  bit-right : (store : List ℕ) (p : ℕ) → p < bits (m .g) (m .k) → T (bitRight m set store p)
-      → T (bitAt store p) ↔ Marked m (lineAt (m .g) (m .k) p)
-  unfolding bitRight followed
-  bit-right store p h b =
-      let line : List ℕ = lineAt (m .g) (m .k) p in
-      decided (bitAt store p) (followed m line) (absent set line) b
+  bits-right : (store : List ℕ) → T (bitsRight m set store) → (line : List ℕ) → Line (m .g) (m .k) line
+      → T (bitAt store (position (m .g) line)) ↔ Marked m line
+  unfolding bitsRight bitRight followed
+  bits-right store h [] l = absurd (omega (arith, l .some))
+  bits-right store h (x ∷ xs) l =
+      let line : List ℕ = x ∷ xs in
+      let n : ℕ = length xs in
+      let all = at-below (2 * m .k) (λ n. below (m .g ^ suc n) (bitRight m set store n)) h n (omega (arith, l .most)) in
+      let one = at-below (m .g ^ suc n) (bitRight m set store n) all (value (m .g) line) (value-below (m .g) line (l .states)) in
+      decided (bitAt store (position (m .g) line)) (followed m line) (absent set line)
+      (rw (digits-value (m .g) line (l .states)) at one)
       (finds-run (2 * m .k + 2) m 0 (m .start .0) (startStacks m) line)
-      (absent-unmarked line (line-at (m .g) (m .k) p h .most))
+      (absent-unmarked line (l .most))
 
   pub drawn-lines : (store : List ℕ) → T (drawn m set store)
       → (length store ≡ bytesFor (m .g) (m .k)) × LineTable m (replicate (length store) 0) store
@@ -115,15 +123,15 @@ module _ (m : Model) (limit : ℕ) (set : List Place) (t : T (closed m limit set
       let count : ℕ = bits (m .g) (m .k) in
       let bytes : ℕ = bytesFor (m .g) (m .k) in
       let free : ℕ → Bool = λ p. ltb p count || not (bitAt store p) in
-      let w = both (eqb (length store) bytes && below count (bitRight m set store)) (below (8 * bytes) free) .0 h in
-      let v = both (eqb (length store) bytes) (below count (bitRight m set store)) .0 (w .0) in
+      let w = both (eqb (length store) bytes && bitsRight m set store) (below (8 * bytes) free) .0 h in
+      let v = both (eqb (length store) bytes) (bitsRight m set store) .0 (w .0) in
       let size : length store ≡ bytes = equal (length store) bytes .0 (v .0) in
       let zeros : List ℕ = replicate (length store) 0 in
       let same : length zeros ≡ length store = simp length-replicate in (
         size,
         record {
           size = sym same;
-          marks = λ p l. bit-right store p l (at-below count (bitRight m set store) (v .1) p l);
+          marks = bits-right store (v .1);
           spare = λ p l b. spared count (bitAt store p) p l (at-below (8 * bytes) free (w .1) p b);
           beyond =
               drop-of-length-le store {i = bytes} (omega arith) ∙ sym (drop-of-length-le zeros {i = bytes} (omega arith));

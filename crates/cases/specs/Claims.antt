@@ -9,10 +9,9 @@ use Rattle.model.specs.declared.Model.{Model}
 use Rattle.model.specs.Results.{refused, accepted}
 use Rattle.model.specs.Runs.{Reaches}
 use Rattle.model.specs.Schedules.{bytesOf, Shown}
+use Rattle.model.specs.Tables.{bytesFor, LineTable}
 use Rattle.model.specs.Valid.{Valid}
 use Rattle.model.specs.Verdict.{clear, found, Judged}
-use Rattle.reach.specs.Answer.{LineTable}
-use Rattle.reach.specs.Bits.{bytesFor}
 use Rattle.record.specs.Reader.{readOf}
 use Rattle.replay.specs.declared.Replayed.the-variants.{Accepted}
 use Rattle.replay.specs.Replay.{replayOf}
@@ -34,11 +33,11 @@ pub record Case : Type 0 where
   pub answer : Answer
 
 -- A record is accepted, and something holds of its model.
-pub record Accepts (bytes : List ℕ) (Holds : Model → Type 0) : Type 0 where
+pub record Accepts (bytes : List ℕ) (Fact : Model → Type 0) : Type 0 where
   pub model : Model
   pub read : readOf bytes ≡ accepted (model, [])
   pub valid : Valid model
-  pub holds : Holds model
+  pub holds : Fact model
 
 -- Bytes are a schedule of n steps that reaches the target, and replay says so.
 abbrev pub Scheduled : Model → ℕ → List ℕ → Type 0

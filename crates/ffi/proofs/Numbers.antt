@@ -12,11 +12,11 @@ use Rattle.model.specs.Fits.{Fits}
 use Rattle.model.specs.Results.{refused, accepted, andThen, need, unless, refuse, firstOf}
 use Rattle.model.specs.Rules.{applies}
 use Rattle.model.specs.Schedules.{stepsOf}
-use Rattle.model.specs.Valid.{Valid}
+use Rattle.model.specs.Tables.{tableFits}
+use Rattle.model.specs.Valid.{Valid, storeRefusal}
 use Rattle.model.specs.Walk.{Step, Config, Walked, turnFits, after, fire, stepFrom, walk, ownerOf, threadOf, stackOf, startOf}
 use Rattle.model.proofs.Inside.{applies-iff, fits-of}
 use Rattle.model.proofs.Ranges.{valid-fits}
-use Rattle.reach.specs.Bits.{bytesFor}
 use Rattle.judge.specs.declared.Judgement.{Judgement}
 use Rattle.judge.specs.declared.Judgement.the-variants as judgement
 use Rattle.judge.specs.Answer.{refusalOf, Answers}
@@ -33,8 +33,8 @@ judgementOf n =
 
 -- A valid model is refused by 7 alone.
 seven : (m : Model) (lines schedule : ℕ) → Valid m → 0 < refusalOf m lines schedule → refusalOf m lines schedule ≡ 7
-unfolding refusalOf firstOf
-seven m lines schedule v = rw v (go (leb (bytesFor (m .g) (m .k)) lines && leb 8190 schedule))
+unfolding refusalOf storeRefusal firstOf
+seven m lines schedule v = rw v (go (tableFits m lines && leb 8190 schedule))
   where
     go : (b : Bool) → 0 < firstOf (refuse 7 b ∷ []) → firstOf (refuse 7 b ∷ []) ≡ 7
     go true h = absurd (omega arith)

@@ -1,34 +1,25 @@
 -- The refusals in their order: those of a call that fills a line table, and then a schedule store that is too short.
-use mathlib.Core.Bool.{Bool, true, false, _&&_}
 use mathlib.Core.List.{List, [], _∷_}
 use mathlib.Core.Path.{_≡_, refl, _∙_}
-use Prim.Native.Nat.{ℕ, zero, suc, _<_, _≤_}
+use Prim.Native.Nat.{ℕ, _<_, _≤_}
 use native.Mathlib.Omega.{arith}
 use borrow.Author.Tests.{le-leb, lt-leb}
 use lib.Dec.{leb}
 use Rattle.model.specs.declared.Model.{Model}
 use Rattle.model.specs.Results.{refuse, firstOf}
-use Rattle.model.specs.Valid.{faultOf}
+use Rattle.model.specs.Tables.{tableFits, LineTable}
+use Rattle.model.specs.Valid.{storeRefusal}
 use Rattle.model.proofs.Checks.{stops, passes, closes}
-use Rattle.reach.specs.Answer.{lineRefusal, LineTable}
-use Rattle.reach.specs.Bits.{bytesFor}
+use Rattle.model.proofs.Granted.{two-stores}
 use Rattle.judge.specs.declared.Judgement.{Judgement}
 use Rattle.judge.specs.declared.Judgement.the-variants.{Clear, Long, Found, Refused}
 use Rattle.judge.specs.Answer.{refusalOf, Answers, LeavesLines}
 
--- A test of two parts refuses where the first part does, and then where the second does.
-in-order : (fault : ℕ) (x y : Bool)
-    → firstOf (firstOf (fault ∷ refuse 7 x ∷ []) ∷ refuse 7 y ∷ []) ≡ firstOf (fault ∷ refuse 7 (x && y) ∷ [])
-unfolding firstOf
-in-order zero true y = refl
-in-order zero false y = refl
-in-order (suc fault) x y = refl
-
-module _ (m : Model) (lines schedule : ℕ) {number : ℕ} (e : number ≡ lineRefusal m lines) where
+module _ (m : Model) (lines schedule : ℕ) {number : ℕ} (e : number ≡ storeRefusal m (tableFits m lines)) where
   -- The line table's refusal comes first, and then the schedule store's.
-  pub checks : firstOf (number ∷ refuse 7 (leb 8190 schedule) ∷ []) ≡ refusalOf m lines schedule
-  unfolding lineRefusal refusalOf
-  checks = rw e (in-order (faultOf m) (leb (bytesFor (m .g) (m .k)) lines) (leb 8190 schedule))
+  checks : firstOf (number ∷ refuse 7 (leb 8190 schedule) ∷ []) ≡ refusalOf m lines schedule
+  unfolding refusalOf
+  checks = rw e (two-stores m (tableFits m lines) (leb 8190 schedule))
 
   -- A refusal of the line table is the answer ..
   pub refused : (number ≡ 0 → ⊥) → Answers m (refusalOf m lines schedule) (Refused number)

@@ -18,8 +18,8 @@ use Rattle.model.proofs.Ranges.{valid-fits}
 use Rattle.model.proofs.Turns.{legal-full}
 use Rattle.summary.specs.Table.{capped, Least}
 use Rattle.costs.specs.Cost.{BothCosts}
-use Rattle.reach.proofs.Full.{last-digits}
-use Rattle.reach.proofs.Marks.{line-cost, full-cost}
+use Rattle.draw.proofs.Full.{last-digits}
+use Rattle.draw.proofs.Marks.{line-cost, full-cost}
 use Rattle.costs.proofs.Views.{views, joined}
 use Rattle.judge.specs.declared.Choice.{Choice}
 use Rattle.judge.specs.Best.{Best}

@@ -1,6 +1,6 @@
 -- The schedule of the best line: its two costs are what the writer asks for, and what it writes reaches the target in the
 -- least number of steps. So replay accepts it.
-use mathlib.Core.Bool.{true}
+use mathlib.Core.Bool.{true, _&&_}
 use mathlib.Core.List.{List}
 use mathlib.Core.Path.{_≡_, refl, sym, _∙_}
 use Prim.Native.Nat.{ℕ, _+_, _*_, _^_, _≤_, _<_}
@@ -11,19 +11,18 @@ use lib.ListN.{length, take, getD}
 use Rattle.model.specs.declared.Model.{Model}
 use Rattle.model.specs.Fits.{Fits}
 use Rattle.model.specs.Lines.{digits}
-use Rattle.model.specs.Results.{refuse}
 use Rattle.model.specs.Runs.{Reaches, Turns}
 use Rattle.model.specs.Schedules.{Stored}
+use Rattle.model.specs.Tables.{tableFits}
 use Rattle.model.specs.Valid.{Valid}
 use Rattle.model.specs.Walk.{startStacks}
 use Rattle.model.specs.declared.ThreadId.the-variants.{A, B}
-use Rattle.model.proofs.Ranges.{valid-fits}
+use Rattle.model.proofs.Granted.{granted}
 use Rattle.model.proofs.Stores.{stored-front}
-use Rattle.reach.specs.Answer.{lineRefusal}
+use Rattle.model.proofs.Tests.{both}
 use Rattle.costs.specs.Cost.{BothCosts}
-use Rattle.reach.proofs.Answers.{nothing, untroubled, good}
 use Rattle.costs.proofs.Digits.{power-small}
-use Rattle.reach.proofs.Marks.{line-cost}
+use Rattle.draw.proofs.Marks.{line-cost}
 use Rattle.replay.specs.declared.Replayed.the-variants.{Accepted}
 use Rattle.replay.specs.Replay.{replayOf}
 use Rattle.replay.proofs.Accepts.{accepts}
@@ -32,7 +31,6 @@ use Rattle.judge.specs.declared.Choice.{Choice}
 use Rattle.judge.specs.declared.Judgement.the-variants.{Found}
 use Rattle.judge.specs.Answer.{refusalOf, Answers}
 use Rattle.judge.specs.Best.{Best}
-use Rattle.judge.proofs.Answers.{checks}
 use Rattle.judge.proofs.Reaching.{run-reaches}
 
 module _ {m : Model} (f : Fits m) {a b : List ℕ} {c : Choice}
@@ -88,8 +86,8 @@ replayed m {n} {old} {new} v most room s =
 pub found-replayed : (m : Model) (lines : ℕ) {n : ℕ} {old new : List ℕ}
     → Answers m (refusalOf m lines (length old)) (Found n) → Stored (Reaches m) n 0 old new
     → replayOf m (take (2 * n) new) ≡ Accepted (m .target) true
+unfolding refusalOf
 found-replayed m lines {n} {old} a s =
-    let all = sym (checks m lines (length old) refl ∙ a .0) in
-    let none = nothing (lineRefusal m lines) (refuse 7 (leb 8190 (length old))) all in
-    let room = leb→le 8190 (length old) (untroubled (leb 8190 (length old)) (none .1)) in
-    replayed m (valid-fits m .1 (good m lines (sym (none .0)) .0)) (a .1 .0) (omega (arith, room, a .1 .0)) s
+    let known = granted m (tableFits m lines && leb 8190 (length old)) .0 (a .0) in
+    let room = leb→le 8190 (length old) (both (tableFits m lines) (leb 8190 (length old)) .0 (known .1) .1) in
+    replayed m (known .0) (a .1 .0) (omega (arith, room, a .1 .0)) s

@@ -1,25 +1,22 @@
 -- What the judge answers, and what each store then holds.
 use mathlib.Core.Bool.{_&&_}
-use mathlib.Core.List.{List, [], _∷_}
+use mathlib.Core.List.{List}
 use mathlib.Core.Path.{_≡_}
 use Prim.Native.Nat.{ℕ, _<_}
 use lib.Dec.{leb}
 use Rattle.model.specs.declared.Model.{Model}
-use Rattle.model.specs.Results.{refuse, firstOf}
 use Rattle.model.specs.Runs.{Reaches}
 use Rattle.model.specs.Schedules.{Stored}
-use Rattle.model.specs.Valid.{faultOf}
+use Rattle.model.specs.Tables.{tableFits, LineTable}
+use Rattle.model.specs.Valid.{storeRefusal}
 use Rattle.model.specs.Verdict.{clear, long, found, Judged}
-use Rattle.reach.specs.Answer.{LineTable}
-use Rattle.reach.specs.Bits.{bytesFor}
 use Rattle.judge.specs.declared.Judgement.{Judgement}
 use Rattle.judge.specs.declared.Judgement.the-variants.{Clear, Long, Found, Refused}
 
 -- The refusal that a model and the lengths of the two stores get: the model's fault (3, 4), then 7 where the line store has
 -- too few bits or the schedule store fewer than 8,190 bytes; 0 for none.
 unfoldable pub refusalOf : Model → ℕ → ℕ → ℕ
-refusalOf m lines schedule =
-    firstOf (faultOf m ∷ refuse 7 (leb (bytesFor (m .g) (m .k)) lines && leb 8190 schedule) ∷ [])
+refusalOf m lines schedule = storeRefusal m (tableFits m lines && leb 8190 schedule)
 
 -- An answer is right where n is the refusal due: that number alone, or where there is none a verdict that is true of all runs.
 abbrev pub Answers : Model → ℕ → Judgement → Type 0

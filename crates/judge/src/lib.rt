@@ -2,8 +2,7 @@
 ghost use Prim.Native.Nat.{_*_, _^_, _≤_};
 ghost use lib.ListN.{length};
 ghost use Rattle.model.specs.Fits.{Fits};
-ghost use Rattle.reach.specs.Answer.{LineTable};
-ghost use Rattle.reach.specs.Bits.{bytesFor};
+ghost use Rattle.model.specs.Tables.{bytesFor, LineTable};
 ghost use Rattle.costs.specs.Cost.{BothCosts};
 ghost use Rattle.judge.specs.Answer.{refusalOf, Answers, LeavesLines, LeavesSchedule};
 ghost use Rattle.judge.specs.Best.{Best};
@@ -34,7 +33,7 @@ pub fn judge(m: Model, lines: &mut [u8], schedule: &mut [u8]) -> Judgement
     ensures table { λ r. ⌜ LeavesLines m r (now (lines .entry)) (now (lines .exit)) ⌝ }
     ensures witness { λ r. ⌜ LeavesSchedule m r (now (schedule .entry)) (now (schedule .exit)) ⌝ }
 {
-    let number = reach::refusal(m, lines.len());
+    let number = draw::refusal(m, lines.len());
     if number != 0 {
         return Judgement::Refused(number);
     }
@@ -66,7 +65,7 @@ fn search(m: Model, lines: &mut [u8], a: &[u64], b: &[u64]) -> Choice
     ensures table { λ r. ⌜ LineTable m (now (lines .entry)) (now (lines .exit)) ⌝ }
     ensures best { λ r. ⌜ Best (m .g) (m .target .0) (m .g ^ (2 * m .k)) (now (a .entry)) (now (b .entry)) r ⌝ }
 {
-    reach::draw::draw(lines, m.g, m.k, a, b);
+    draw::draw(m, lines, a, b);
     choose::choose(m.g as usize, m.k as usize, m.target.0 as usize, a, b)
 }
 

@@ -1,5 +1,6 @@
 pub mod Alike
 pub mod Checks
+pub mod Granted
 pub mod Inside
 pub mod Positions
 pub mod Ranges

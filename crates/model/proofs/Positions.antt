@@ -1,18 +1,14 @@
--- Positions and lines are inverse to each other: shorter lines fill the places below a line's own length, and within a
--- length the base-g value of n states runs through the places below gⁿ. So no two lines share a place, and `lineAt`
--- finds a line for each place of the table.
-use mathlib.Core.Bool.{Bool, true, false, cond}
+-- A place has one line: shorter lines fill the places below a line's own length, and within a length the base-g value of n states
+-- runs through the places below gⁿ. So no two lines share a place.
 use mathlib.Core.Path.{_≡_, refl, ap, sym}
 use mathlib.Core.List.{List, [], _∷_}
 use mathlib.Core.Logic.{inl, inr}
-use Prim.Native.Nat.{ℕ, zero, suc, _+_, _-_, _*_, _%_, _^_, _<_, _≤_, pred}
+use Prim.Native.Nat.{ℕ, zero, suc, _+_, _*_, _%_, _^_, _<_, _≤_, pred}
 use native.Mathlib.Nat.{le-suc-iff, pow-zero, pow-succ', mod-lt, div-add-mod', div-lt-iff-lt-mul, lt-of-mul-lt-mul-left}
 use native.Mathlib.Omega.{arith}
 use lib.Arith.{le-zero, digits-lt, digits-div, digits-mod}
-use lib.Dec.{ltb}
 use lib.ListN.{length}
-use borrow.Author.Tests.{ltb-true, ltb-false}
-use Rattle.model.specs.Lines.{States, Line, powers, bits, value, position, digits, lineFrom, lineAt}
+use Rattle.model.specs.Lines.{States, Line, powers, bits, value, position, digits}
 
 -- n states have a value below gⁿ.
 pub value-below : (g : ℕ) (line : List ℕ) → States g line → value g line < g ^ length line
@@ -54,7 +50,7 @@ digits-value g (x ∷ xs) s =
     rw (digits-div x b, digits-mod x b, digits-value g xs (s .1))
 
 -- There are no fewer lines up to more states.
-powers-mono : (g i j : ℕ) → i ≤ j → powers g i ≤ powers g j
+pub powers-mono : (g i j : ℕ) → i ≤ j → powers g i ≤ powers g j
 unfolding powers
 powers-mono g i zero h = omega (arith, ap (powers g) (le-zero h))
 powers-mono g i (suc j) h =
@@ -81,47 +77,11 @@ position-injective {g} {a = a} {b = b} l m e =
     let values : value g a ≡ value g b = omega (arith, ap (λ (n : ℕ). powers g (pred n)) lengths) in
     cc (digits-value g a (l .states), digits-value g b (m .states))
 
--- What both arms of a test have.
-either : {A : Type 0} (P : A → Type 0) (b : Bool) {x y : A} → (b ≡ true → P x) → (b ≡ false → P y) → P (cond b x y)
-either P true t f = t refl
-either P false t f = f refl
+-- The n states whose value is v are a line ..
+pub digits-line : {g k n v : ℕ} → 1 ≤ n → n ≤ 2 * k → v < g ^ n → Line g k (digits g n v)
+digits-line {g} {n = n} {v} some most low =
+    record { some = rw length-digits some; most = rw length-digits most; states = digits-states g n v low }
 
--- This is a line, and it stands at place p.
-record Stands (g k p : ℕ) (line : List ℕ) : Type 0 where
-  sound : Line g k line
-  place : position g line ≡ p
-
-module _ (g k p : ℕ) (inside : p < bits g k) where
-  -- Place p is q places after the lines of up to m states.
-  line-from : (more m q : ℕ) → m + more ≡ 2 * k → powers g m + q ≡ p → Stands g k p (lineFrom g more (suc m) q)
-  unfolding lineFrom powers
-  line-from zero m q e f = absurd (omega (arith, powers-mono g (2 * k) m (omega arith)))
-  line-from (suc more) m q e f =
-      either (Stands g k p) (ltb q (g ^ suc m))
-      (λ t. let b = ltb-true _ _ t in record {
-        sound = record {
-          some = rw length-digits (omega arith);
-          most = rw length-digits (omega arith);
-          states = digits-states g (suc m) q b;
-        };
-        place = rw (length-digits, value-digits g (suc m) q b) f;
-      })
-      (λ t. line-from more (suc m) (q - g ^ suc m) (omega arith) (omega (arith, ltb-false)))
-
-  stands : Stands g k p (lineAt g k p)
-  unfolding powers
-  stands = line-from (2 * k) 0 p (omega arith) (omega arith)
-
--- The line at a place of the table is a line.
-pub line-at : (g k p : ℕ) → p < bits g k → Line g k (lineAt g k p)
-line-at g k p h = stands g k p h .sound
-
--- The line at a place stands there.
-pub position-line-at : (g k p : ℕ) → p < bits g k → position g (lineAt g k p) ≡ p
-position-line-at g k p h = stands g k p h .place
-
--- The line at a line's place is that line.
-pub line-at-position : {g k : ℕ} {line : List ℕ} → Line g k line → lineAt g k (position g line) ≡ line
-line-at-position l =
-    let s = stands _ _ _ (position-below l) in
-    position-injective (s .sound) l (s .place)
+-- .. that stands v places after all shorter lines.
+pub digits-position : (g n v : ℕ) → v < g ^ n → position g (digits g n v) ≡ powers g (pred n) + v
+digits-position g n v low = rw (length-digits, value-digits g n v low)

@@ -5,6 +5,7 @@ pub mod Results
 pub mod Rules
 pub mod Runs
 pub mod Schedules
+pub mod Tables
 pub mod Valid
 pub mod Verdict
 pub mod Walk

@@ -1,8 +1,8 @@
 -- Lines of shared states, their order, and the place of each in the line table.
 use mathlib.Core.Bool.{_&&_, cond}
 use mathlib.Core.List.{List, [], _∷_}
-use Prim.Native.Nat.{ℕ, zero, suc, _+_, _-_, _*_, _/_, _%_, _^_, _<_, _≤_, pred}
-use lib.Dec.{leb, ltb}
+use Prim.Native.Nat.{ℕ, zero, suc, _+_, _*_, _/_, _%_, _^_, _<_, _≤_, pred}
+use lib.Dec.{leb}
 use lib.ListN.{length}
 
 -- How many lines have one to n states: g + g² + … + gⁿ.
@@ -47,12 +47,3 @@ position g line = powers g (pred (length line)) + value g line
 unfoldable pub digits : ℕ → ℕ → ℕ → List ℕ
 digits g zero v = []
 digits g (suc n) v = v / g ^ n ∷ digits g n (v % g ^ n)
-
--- The line at place p among the lines of n states or more, up to `more` lengths further on.
-unfoldable pub lineFrom : ℕ → ℕ → ℕ → ℕ → List ℕ
-lineFrom g zero n p = []
-lineFrom g (suc more) n p = cond (ltb p (g ^ n)) (digits g n p) (lineFrom g more (suc n) (p - g ^ n))
-
--- The line at place p.
-abbrev pub lineAt : ℕ → ℕ → ℕ → List ℕ
-lineAt g k p = lineFrom g (2 * k) 1 p

@@ -3,11 +3,8 @@ ghost use mathlib.Core.Path.{_≡_};
 ghost use Prim.Native.Nat.{_≤_};
 ghost use lib.ListN.{length};
 ghost use Rattle.model.specs.Fits.{Fits};
-ghost use Rattle.reach.specs.Answer.{lineRefusal, outcomeOf, LineTable, Leaves};
-ghost use Rattle.reach.specs.Bits.{bytesFor};
-
-pub mod draw;
-
+ghost use Rattle.model.specs.Tables.{bytesFor, LineTable};
+ghost use Rattle.reach.specs.Answer.{outcomeOf, Leaves};
 use model::Model;
 
 // The answer to a call that fills a line table: done, or a refusal's number.
@@ -21,24 +18,12 @@ pub fn lines(m: Model, store: &mut [u8]) -> Outcome
     ensures answer { λ r. ⌜ r ≡ outcomeOf m (length (now (store .entry))) ⌝ }
     ensures leaves { λ r. ⌜ Leaves m r (now (store .entry)) (now (store .exit)) ⌝ }
 {
-    let number = refusal(m, store.len());
+    let number = draw::refusal(m, store.len());
     if number != 0 {
         return Outcome::Refused(number);
     }
     mark(m, store);
     Outcome::Done
-}
-
-// The refusal that a model and a line store of so many bytes get; 0 for none.
-pub fn refusal(m: Model, size: usize) -> u8
-    ensures { λ r. ⌜ r ≡ lineRefusal m size ⌝ }
-{
-    let found = model::fault(m);
-    if found != 0 {
-        return found;
-    }
-    let bytes = (model::line_bits(m.g, m.k) as usize + 7) / 8;
-    if size < bytes { 7 } else { 0 }
 }
 
 // The line table of a model in range, into a store that has room for it.
@@ -49,5 +34,5 @@ fn mark(m: Model, store: &mut [u8])
     let mut a = [0u64; 4096];
     let mut b = [0u64; 4096];
     costs::both(m, &mut a, &mut b);
-    draw::draw(store, m.g, m.k, &a, &b);
+    draw::draw(m, store, &a, &b);
 }

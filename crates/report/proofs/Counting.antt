@@ -11,8 +11,9 @@ use lib.Dec.{eqb}
 use lib.ListN.{length}
 use lib.Seq.{length-sets}
 use Rattle.model.specs.Bits.{oneIf}
-use Rattle.model.specs.Lines.{powers}
-use Rattle.reach.specs.Bits.{bitAt}
+use Rattle.model.specs.Lines.{powers, position, digits}
+use Rattle.model.specs.Tables.{bitAt}
+use Rattle.model.proofs.Positions.{digits-position}
 use Rattle.writer.specs.Put.{Put}
 use Rattle.writer.proofs.Puts.{nothing, _then_}
 use Rattle.report.specs.Table.{standing, Fills}
@@ -42,12 +43,21 @@ pub counted-none : (has : ℕ → Bool) → 0 ≡ countOf has 0
 unfolding countOf
 counted-none has = refl
 
+-- Sets that agree below n have as many numbers there.
+pub count-same : (f h : ℕ → Bool) (n : ℕ) → ((v : ℕ) → v < n → f v ≡ h v) → countOf f n ≡ countOf h n
+unfolding countOf
+count-same f h zero e = refl
+count-same f h (suc n) e = rw (count-same f h n (λ v l. e v (omega arith)), e n (omega arith))
+
 -- The line of one length more.
 next-line : (g n : ℕ) (table : List ℕ) {from w c : ℕ} → from ≡ powers g n → w ≡ g ^ (n + 1)
     → c ≡ countOf (λ v. bitAt table (from + v)) w
     → countLines g (standing g table) (n + 1) ≡ countLines g (standing g table) n ++ countLine (n + 1) c
 unfolding countLines standing
-next-line g n table e f h = rw (h, f, e, add-one)
+next-line g n table e f h =
+    let same = count-same (λ v. bitAt table (position g (digits g (suc n) v))) (λ v. bitAt table (powers g n + v)) (g ^ suc n)
+    (λ v low. rw (digits-position g (suc n) v low)) in
+    rw (h, f, e, add-one, same)
 
 -- The lines of the first n lengths stand.
 pub record Tabled (g longest : ℕ) (table s₀ s : List ℕ) (at next from n : ℕ) : Type 0 where

@@ -8,7 +8,7 @@ use lib.ListN.{length, take, set, getD}
 use lib.Seq.{take-suc, take-all, sets-eq, length-sets}
 use Rattle.writer.specs.Put.{Put}
 use Rattle.writer.proofs.Puts.{_then_}
-use Rattle.report.specs.Prints.{Holds}
+use Rattle.report.specs.Prints.{Begins}
 
 -- Nothing stands yet ..
 pub put-start : (l : List ℕ) (at : ℕ) → Put l l at (at + 0) []
@@ -25,7 +25,7 @@ pub put-end : {l m : List ℕ} (w : List ℕ) {at i : ℕ} → length w ≤ i �
 put-end w {i = i} h p = rw (take-all i w h) at p
 
 -- A text that was put at the front of a store, within it.
-pub held : {Kind : List ℕ → Type 0} {l m a : List ℕ} {r : ℕ} → Kind a → Put l m 0 r a → r ≤ length l → Holds Kind r l m
+pub held : {Kind : List ℕ → Type 0} {l m a : List ℕ} {r : ℕ} → Kind a → Put l m 0 r a → r ≤ length l → Begins Kind r l m
 held {l = l} {a = a} k p h =
     record {
       text = a;
@@ -37,10 +37,10 @@ held {l = l} {a = a} k p h =
 
 -- The same of a text whose length is known to be at most n.
 pub held-within : {Kind : List ℕ → Type 0} {l m a : List ℕ} {r n : ℕ} → Kind a → Put l m 0 r a → length a ≤ n → n ≤ length l
-    → Holds Kind r l m
+    → Begins Kind r l m
 held-within k p h room = held k p (omega (arith, p .ends))
 
 -- A text of one kind is one of another, where the one kind is the other.
-pub as-kind : {Kind Other : List ℕ → Type 0} {r : ℕ} {l m : List ℕ} → ((a : List ℕ) → Kind a → Other a) → Holds Kind r l m
-    → Holds Other r l m
+pub as-kind : {Kind Other : List ℕ → Type 0} {r : ℕ} {l m : List ℕ} → ((a : List ℕ) → Kind a → Other a) → Begins Kind r l m
+    → Begins Other r l m
 as-kind f h = record { text = h .text; kind = f (h .text) (h .kind); size = h .size; room = h .room; stored = h .stored }

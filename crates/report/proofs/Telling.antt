@@ -1,48 +1,47 @@
 -- From the answers of the reader and of the judge to what is printed.
+use mathlib.Core.Bool.{_&&_}
 use mathlib.Core.List.{List, _++_}
-use mathlib.Core.Logic.{_↔_}
 use mathlib.Core.Path.{_≡_, refl, subst}
-use Prim.Native.Nat.{ℕ, pred, _+_, _*_, _≤_, _<_}
+use Prim.Native.Nat.{ℕ, _*_, _≤_, _<_}
 use native.Mathlib.Omega.{arith}
-use borrow.Author.Tests.{le-leb}
-use lib.Dec.{T}
+use lib.Dec.{leb}
 use lib.ListN.{length, take}
 use Rattle.model.specs.declared.Model.{Model}
-use Rattle.model.specs.Lines.{Line, powers, bits, digits, position}
-use Rattle.model.specs.Results.{refused, accepted, firstOf}
-use Rattle.model.specs.Runs.{Reaches, Marked}
+use Rattle.model.specs.Results.{refused, accepted}
+use Rattle.model.specs.Runs.{Reaches}
 use Rattle.model.specs.Schedules.{stepsOf, Stored}
+use Rattle.model.specs.Tables.{bytesFor, tableFits, LineTable}
 use Rattle.model.specs.Valid.{Valid}
 use Rattle.model.specs.Verdict.{clear, long, found, Judged}
 use Rattle.model.specs.Walk.{Step}
-use Rattle.model.proofs.Positions.{length-digits, value-digits, digits-states, position-below, line-at-position}
+use Rattle.model.proofs.Granted.{granted}
 use Rattle.model.proofs.Ranges.{valid-fits}
 use Rattle.model.proofs.Stores.{stored-steps}
-use Rattle.reach.specs.Answer.{LineTable}
-use Rattle.reach.specs.Bits.{bitAt, bytesFor}
+use Rattle.model.proofs.Tests.{both, order}
 use Rattle.record.specs.declared.Answer.the-variants.{Accepted, Refused}
 use Rattle.record.specs.declared.Reading.{Reading}
 use Rattle.record.specs.Held.{readingOf}
 use Rattle.record.specs.Reader.{Read}
 use Rattle.judge.specs.Answer.{refusalOf}
-use Rattle.report.specs.Prints.{Marks, Judges, Answers}
+use Rattle.report.specs.Prints.{Told, TextFor, longest}
 use Rattle.report.specs.Table.{standing, Fills}
 use Rattle.report.specs.Text.{line, refusedWord, foundWord, clearLine, longLine, stepLines, countLines}
 use Rattle.report.proofs.Numbers.{digits-4, length-line}
 use Rattle.report.proofs.Sizes.{powers-low, found-short}
 
 -- A valid model is not refused by the judge where the stores have 683 and 8,190 bytes.
-pub granted : (m : Model) → Valid m → refusalOf m 683 8190 ≡ 0
-unfolding refusalOf firstOf
-granted m v =
+unrefused : (m : Model) → Valid m → refusalOf m 683 8190 ≡ 0
+unfolding refusalOf
+unrefused m v =
     let f = valid-fits m .0 v in
     let low : bytesFor (m .g) (m .k) ≤ 683 =
     let b = powers-low (m .g) (2 * m .k) (f .g .1) (omega (arith, f .k)) in omega arith in
-    rw (v, le-leb _ 683 low)
+    granted m (tableFits m 683 && leb 8190 8190) .1
+    (v, both (tableFits m 683) (leb 8190 8190) .1 (order (bytesFor (m .g) (m .k)) 683 .1 low, tt))
 
 -- So it gives no refusal.
 pub not-refused : (m : Model) {a b : ℕ} {P : Type 0} → Valid m → a ≡ 683 → b ≡ 8190 → 0 < refusalOf m a b → P
-not-refused m v e f h = absurd (omega (arith, granted m v, rw (e, f) at h))
+not-refused m v e f h = absurd (omega (arith, unrefused m v, rw (e, f) at h))
 
 -- A store of 683 bytes has a bit for each line of a valid model.
 pub fills : (m : Model) {table : List ℕ} → Valid m → length table ≡ 683 → Fills (m .g) (2 * m .k) table
@@ -50,40 +49,20 @@ fills m v e =
     let f = valid-fits m .0 v in
     record { states = f .g .1; most = omega (arith, f .k); bits = omega arith }
 
--- The bit at the place of a line says whether the line is marked.
-place-marks : (m : Model) {old table line : List ℕ} (p : ℕ) → LineTable m old table → Line (m .g) (m .k) line
-    → position (m .g) line ≡ p → T (bitAt table p) ↔ Marked m line
-place-marks m {table = table} {line} p t l e =
-    subst (λ q. T (bitAt table q) ↔ Marked m line) e
-    (subst (λ x. T (bitAt table (position (m .g) line)) ↔ Marked m x) (line-at-position l)
-    (t .marks (position (m .g) line) (position-below l)))
-
--- So for the line of n states with value v.
-pub table-marks : (m : Model) {old table : List ℕ} → LineTable m old table → Marks m (standing (m .g) table)
-unfolding standing
-table-marks m {old} {table} t n v some most below =
-    let size = length-digits (m .g) n v in
-    let l : Line (m .g) (m .k) (digits (m .g) n v) = record {
-      some = rw size some;
-      most = rw size most;
-      states = digits-states (m .g) n v below;
-    } in
-    let place : position (m .g) (digits (m .g) n v) ≡ powers (m .g) (pred n) + v = rw (size, value-digits (m .g) n v below) in
-    place-marks m (powers (m .g) (pred n) + v) t l place
-
 -- The text of a model that is Clear.
 pub tells-clear : {m : Model} {old table : List ℕ} → Judged m clear → LineTable m old table
-    → Judges m (clearLine ++ countLines (m .g) (standing (m .g) table) (2 * m .k))
-tells-clear {m} j t =
+    → Told m (clearLine ++ countLines (m .g) (standing (m .g) table) (2 * m .k))
+unfolding standing
+tells-clear {m} {table = table} j t =
     record {
       verdict = clear;
       judged = j;
-      tells = record { has = standing (m .g) _; marks = table-marks m t; same = refl };
+      tells = record { has = standing (m .g) table; marks = t .marks; same = refl };
     }
 
 -- There is room for the text of the schedule.
 pub found-room : {m : Model} {n : ℕ} {old new : List ℕ} → Valid m → n ≤ 4095 → (s : Stored (Reaches m) n 0 old new) → 2 * n ≤ length old
-    → length (line foundWord n ++ stepLines (stepsOf (take (2 * n) new))) ≤ 28676
+    → length (line foundWord n ++ stepLines (stepsOf (take (2 * n) new))) ≤ longest
 found-room {m} v h s l = rw (stored-steps s l) (found-short (valid-fits m .0 v) (s .run) (s .count) h)
 
 -- The line of a refusal is short.
@@ -92,7 +71,7 @@ refused-short n h = omega (arith, length-line refusedWord n, digits-4 n (omega a
 
 -- The text of a model that is Found.
 pub tells-found : {m : Model} {n : ℕ} {ss : List Step} {old new : List ℕ} → Judged m (found n) → (s : Stored (Reaches m) n 0 old new)
-    → ss ≡ s .steps → Judges m (line foundWord n ++ stepLines ss)
+    → ss ≡ s .steps → Told m (line foundWord n ++ stepLines ss)
 tells-found {n = n} j s e =
     record {
       verdict = found n;
@@ -101,18 +80,18 @@ tells-found {n = n} j s e =
     }
 
 -- The text of a model that is Long.
-pub tells-long : {m : Model} → Judged m long → Judges m longLine
+pub tells-long : {m : Model} → Judged m long → Told m longLine
 tells-long j = record { verdict = long; judged = j; tells = refl }
 
 -- The text of a model that a whole record holds is the text of the record ..
 pub acceptance : (x : Read Model) {r : Reading} → r ≡ readingOf x → r .answer ≡ Accepted → (text : List ℕ)
-    → Judges (r .model) text → Answers x text
+    → Told (r .model) text → TextFor x text
 unfolding readingOf
 acceptance (refused n) e a text j = absurd (let z : _≡_ {A = ℕ} 0 1 = cc in omega arith)
-acceptance (accepted (m, rest)) e a text j = subst (λ r. Judges (r .model) text) e j
+acceptance (accepted (m, rest)) e a text j = subst (λ r. Told (r .model) text) e j
 
 -- .. and so is the line of a refusal.
-pub refusal : (x : Read Model) {r : Reading} {n : ℕ} → r ≡ readingOf x → r .answer ≡ Refused n → Answers x (line refusedWord n)
+pub refusal : (x : Read Model) {r : Reading} {n : ℕ} → r ≡ readingOf x → r .answer ≡ Refused n → TextFor x (line refusedWord n)
 unfolding readingOf
 refusal (refused k) {r} {n} e a = let same : k ≡ n = cc in rw same
 refusal (accepted (m, rest)) e a = absurd (let z : _≡_ {A = ℕ} 0 1 = cc in omega arith)

@@ -3,28 +3,23 @@ use mathlib.Core.Bool.{Bool}
 use mathlib.Core.List.{List, _++_}
 use mathlib.Core.Logic.{_↔_}
 use mathlib.Core.Path.{_≡_}
-use Prim.Native.Nat.{ℕ, _*_, _^_, _≤_, _<_}
+use Prim.Native.Nat.{ℕ, _*_, _≤_, _<_}
 use lib.Dec.{T}
 use lib.ListN.{length, drop}
 use Rattle.model.specs.declared.Model.{Model}
-use Rattle.model.specs.Lines.{digits}
+use Rattle.model.specs.Lines.{Line}
 use Rattle.model.specs.Results.{refused, accepted}
 use Rattle.model.specs.Runs.{Reaches, Marked}
 use Rattle.model.specs.Schedules.{Shown}
 use Rattle.model.specs.Verdict.{Verdict, clear, long, found, Judged}
-use Rattle.model.specs.Valid.{Valid}
 use Rattle.record.specs.Reader.{Read, readOf}
 use Rattle.report.specs.Text.{line, refusedWord, foundWord, clearLine, longLine, stepLines, countLines}
 
--- A set of lines, by their lengths and values, is that of a model's marked lines.
-abbrev pub Marks : Model → (ℕ → ℕ → Bool) → Type 0
-Marks m has =
-    (n v : ℕ) → 1 ≤ n → n ≤ 2 * m .k → v < m .g ^ n → T (has n v) ↔ Marked m (digits (m .g) n v)
-
--- The text of Clear: `clear`, and for each length from 1 to 2K how many lines of that length are marked.
+-- The text of Clear: `clear`, and for each length from 1 to 2K how many lines of that length are marked. The lines that are
+-- counted are those of a set that has just the marked ones.
 pub record Counts (m : Model) (text : List ℕ) : Type 0 where
-  pub has : ℕ → ℕ → Bool
-  pub marks : Marks m has
+  pub has : List ℕ → Bool
+  pub marks : (line : List ℕ) → Line (m .g) (m .k) line → T (has line) ↔ Marked m line
   pub same : text ≡ clearLine ++ countLines (m .g) has (2 * m .k)
 
 -- The text of Found: `found`, the number of steps, and the lines of some schedule of so many steps that reaches the target.
@@ -38,38 +33,33 @@ Tells m long text = text ≡ longLine
 Tells m (found n) text = Lists m n text
 
 -- A verdict that is true of the model, and its text.
-pub record Judges (m : Model) (text : List ℕ) : Type 0 where
+pub record Told (m : Model) (text : List ℕ) : Type 0 where
   pub verdict : Verdict
   pub judged : Judged m verdict
   pub tells : Tells m verdict text
 
 -- The text for what reading comes to: the number of the refusal, or the verdict on the model.
-abbrev pub Answers : Read Model → List ℕ → Type 0
-Answers (refused n) text = text ≡ line refusedWord n
-Answers (accepted (m, rest)) text = Judges m text
+abbrev pub TextFor : Read Model → List ℕ → Type 0
+TextFor (refused n) text = text ≡ line refusedWord n
+TextFor (accepted (m, rest)) text = Told m text
 
 -- The text for the bytes of a record.
 abbrev pub Prints : List ℕ → List ℕ → Type 0
-Prints bytes text = Answers (readOf bytes) text
+Prints bytes text = TextFor (readOf bytes) text
 
--- A store whose first r bytes are a text of this kind; the bytes beyond are as they were.
-pub record Holds (Kind : List ℕ → Type 0) (r : ℕ) (old new : List ℕ) : Type 0 where
+-- A store begins with a text of this kind, of r bytes; the bytes beyond are as they were.
+pub record Begins (Kind : List ℕ → Type 0) (r : ℕ) (old new : List ℕ) : Type 0 where
   pub text : List ℕ
   pub kind : Kind text
   pub size : r ≡ length text
   pub room : r ≤ length new
   pub stored : new ≡ text ++ drop r old
 
--- Room for the longest text: `found 4095` and 4,095 lines of seven bytes.
-pub record Room (text : List ℕ) : Type 0 where
-  pub room : 28676 ≤ length text
-
--- A valid model, and room for its text.
-pub record Asks (m : Model) (text : List ℕ) : Type 0 where
-  pub valid : Valid m
-  pub room : Room text
+-- The longest text has so many bytes: `found 4095` and 4,095 lines of seven bytes.
+abbrev pub longest : ℕ
+longest = 28676
 
 -- What the call answers and leaves in the store: the text where there is room for the longest; else 0, and what it held.
 pub data Reports (bytes : List ℕ) (r : ℕ) (old new : List ℕ) : Type 0 where
-  text : 28676 ≤ length old → Holds (Prints bytes) r old new → Reports bytes r old new
-  short : length old < 28676 → r ≡ 0 → new ≡ old → Reports bytes r old new
+  text : longest ≤ length old → Begins (Prints bytes) r old new → Reports bytes r old new
+  short : length old < longest → r ≡ 0 → new ≡ old → Reports bytes r old new

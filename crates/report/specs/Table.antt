@@ -1,14 +1,14 @@
--- The bits of a line table by the length and the value of a line, as they are counted.
+-- The bits of a line table as they are counted.
 use mathlib.Core.Bool.{Bool}
 use mathlib.Core.List.{List}
-use Prim.Native.Nat.{ℕ, pred, _+_, _*_, _≤_}
+use Prim.Native.Nat.{ℕ, _*_, _≤_}
 use lib.ListN.{length}
-use Rattle.model.specs.Lines.{powers}
-use Rattle.reach.specs.Bits.{bitAt}
+use Rattle.model.specs.Lines.{position}
+use Rattle.model.specs.Tables.{bitAt}
 
--- The line of n states whose value is v has its bit in a line table: it stands after the lines that have fewer states.
-unfoldable pub standing : ℕ → List ℕ → ℕ → ℕ → Bool
-standing g table n = λ v. bitAt table (powers g (pred n) + v)
+-- The bit at a line's place stands in a line table.
+unfoldable pub standing : ℕ → List ℕ → List ℕ → Bool
+standing g table = λ line. bitAt table (position g line)
 
 -- A store has a bit for each line of up to n states below g, whatever these are: g is at most 4 and n at most 6.
 pub record Fills (g n : ℕ) (table : List ℕ) : Type 0 where

@@ -4,6 +4,7 @@ use mathlib.Core.List.{List, [], _∷_, _++_}
 use Prim.Native.Nat.{ℕ, zero, suc, _+_, _/_, _%_, _^_}
 use lib.Dec.{ltb}
 use Rattle.model.specs.Bits.{oneIf}
+use Rattle.model.specs.Lines.{digits}
 use Rattle.model.specs.declared.ThreadId.{ThreadId}
 use Rattle.model.specs.declared.ThreadId.the-variants.{A, B}
 use Rattle.model.specs.Walk.{ownerOf, Step}
@@ -60,8 +61,7 @@ countOf has (suc n) = countOf has n + oneIf (has n)
 unfoldable pub countLine : ℕ → ℕ → List ℕ
 countLine n count = decimal n ++ line (32 ∷ []) count
 
--- For each length from 1 to n, how many of its lines are in a set; `has n v` says it of the line of n states whose value is v,
--- and there are gⁿ of them.
-unfoldable pub countLines : ℕ → (ℕ → ℕ → Bool) → ℕ → List ℕ
+-- For each length from 1 to n, how many of its lines are in a set. A length of n has gⁿ lines, one for each value below gⁿ.
+unfoldable pub countLines : ℕ → (List ℕ → Bool) → ℕ → List ℕ
 countLines g has zero = []
-countLines g has (suc n) = countLines g has n ++ countLine (suc n) (countOf (has (suc n)) (g ^ suc n))
+countLines g has (suc n) = countLines g has n ++ countLine (suc n) (countOf (λ v. has (digits g (suc n) v)) (g ^ suc n))

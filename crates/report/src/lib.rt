@@ -1,7 +1,8 @@
 // What is printed for a record: the verdict on its model, or the refusal. The text is defined in specs/.
 ghost use Prim.Native.Nat.{_≤_};
 ghost use lib.ListN.{length};
-ghost use Rattle.report.specs.Prints.{Judges, Prints, Holds, Room, Asks, Reports};
+ghost use Rattle.model.specs.Valid.{Valid};
+ghost use Rattle.report.specs.Prints.{Told, Prints, Begins, longest, Reports};
 use judge::Judgement;
 use model::Model;
 use record::Answer;
@@ -9,13 +10,16 @@ use record::Answer;
 mod lines;
 mod text;
 
+// The bytes of the longest text.
+const LONGEST: usize = 28676;
+
 // Puts the text for the bytes of a record at the front of a store, and answers how many bytes it has; 0, with the store as it was,
 // where the store is shorter than the longest text.
 pub fn report(bytes: &[u8], store: &mut [u8]) -> usize
     ensures text { λ r. ⌜ Reports (now (bytes .entry)) r (now (store .entry)) (now (store .exit)) ⌝ }
     ensures within { λ r. ⌜ r ≤ length (now (store .exit)) ⌝ }
 {
-    if store.len() < 28676 {
+    if store.len() < LONGEST {
         return 0;
     }
     put_report(bytes, store)
@@ -23,8 +27,8 @@ pub fn report(bytes: &[u8], store: &mut [u8]) -> usize
 
 // The same into a store that has room.
 fn put_report(bytes: &[u8], store: &mut [u8]) -> usize
-    requires { ⌜ Room (now store) ⌝ }
-    ensures { λ r. ⌜ Holds (Prints (now (bytes .entry))) r (now (store .entry)) (now (store .exit)) ⌝ }
+    requires { ⌜ longest ≤ length (now store) ⌝ }
+    ensures { λ r. ⌜ Begins (Prints (now (bytes .entry))) r (now (store .entry)) (now (store .exit)) ⌝ }
 {
     let reading = record::read(bytes);
     let answer = reading.answer;
@@ -36,8 +40,8 @@ fn put_report(bytes: &[u8], store: &mut [u8]) -> usize
 
 // The text of the verdict on a model.
 fn judged(m: Model, store: &mut [u8]) -> usize
-    requires { ⌜ Asks m (now store) ⌝ }
-    ensures { λ r. ⌜ Holds (Judges m) r (now (store .entry)) (now (store .exit)) ⌝ }
+    requires { ⌜ Valid m ⌝ ∗ ⌜ longest ≤ length (now store) ⌝ }
+    ensures { λ r. ⌜ Begins (Told m) r (now (store .entry)) (now (store .exit)) ⌝ }
 {
     let mut table = [0u8; 683];
     let mut schedule = [0u8; 8190];

@@ -5,7 +5,7 @@ ghost use Prim.Native.Nat.{_+_, _*_, _≤_, _<_};
 ghost use lib.ListN.{length};
 ghost use Rattle.model.specs.Bits.{bit as bitOf, oneIf};
 ghost use Rattle.model.specs.Schedules.{stepsOf};
-ghost use Rattle.reach.specs.Bits.{bitAt};
+ghost use Rattle.model.specs.Tables.{bitAt};
 ghost use Rattle.writer.specs.Put.{Put};
 ghost use Rattle.report.specs.Table.{Fills, standing};
 ghost use Rattle.report.specs.Text.{line, foundWord, clearLine, stepLine, stepLines, countOf, countLine, countLines};

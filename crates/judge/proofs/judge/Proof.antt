@@ -1,7 +1,7 @@
 -- `judge` meets its contract: the refusals in their order, and where there is none the verdict.
 use mathlib.Core.Path.{refl, sym, _∙_}
 use borrow.Author.Needs.{needs}
-use Rattle.reach.proofs.Answers.{good}
+use Rattle.draw.proofs.Refusals.{good}
 use Rattle.judge.proofs.Answers.{refused, cramped, unrefused}
 use Rattle.judge.proofs.judge.Statement.{statement}
 use Rattle.judge.proofs.judge.Tie as tie

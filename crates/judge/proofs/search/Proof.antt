@@ -1,6 +1,5 @@
 -- `search` meets its contract: the costs, drawn, are the line table, and the choice among them is the best line.
 use borrow.Author.Needs.{needs}
-use Rattle.reach.proofs.Marks.{line-table}
 use Rattle.judge.proofs.search.Statement.{statement}
 use Rattle.judge.proofs.search.Tie as tie
 
@@ -26,12 +25,7 @@ same-length c = search needs
 
 returns : tie.Need-returns
 returns c =
-    let start = c .before .before .before .before .before .before .before .before .before .before .before in
-    let pre = start .pre in
-    let draw = c .before .before .before .before .before .before .draw in (
-      line-table _ (start .args .a .now) (start .args .b .now) (pre .0 .k .0) (pre .1 .1 .1) (draw .ensures),
-      c .choose .ensures,
-    )
+    (c .before .before .before .before .before .before .draw .ensures, c .choose .ensures)
 
 pub search-spec : {M : Type 1} → statement M
 search-spec =

@@ -2,7 +2,8 @@
 use mathlib.Core.Path.{refl, sym, _∙_}
 use native.Mathlib.Omega.{arith}
 use borrow.Author.Needs.{needs}
-use Rattle.reach.proofs.Answers.{good, refuses, done}
+use Rattle.draw.proofs.Refusals.{good}
+use Rattle.reach.proofs.Answers.{refuses, done}
 use Rattle.reach.proofs.lines.Statement.{statement}
 use Rattle.reach.proofs.lines.Tie as tie
 

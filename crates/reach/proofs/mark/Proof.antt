@@ -1,6 +1,5 @@
 -- `mark` meets its contract: the costs of both threads, drawn, are the line table.
 use borrow.Author.Needs.{needs}
-use Rattle.reach.proofs.Marks.{line-table}
 use Rattle.reach.proofs.mark.Statement.{statement}
 use Rattle.reach.proofs.mark.Tie as tie
 
@@ -20,16 +19,16 @@ slice-aggregate-draw-2 : tie.Need-slice-aggregate-draw-2
 slice-aggregate-draw-2 c = search needs
 
 draw-requires : tie.Need-draw-requires
-draw-requires c κs = search needs
+draw-requires c κs =
+    let both = c .before .before .before .before .before in
+    let pre = both .before .before .before .before .pre in
+    (pre .0, (pre .1, ((search needs, search needs), both .both .ensures)))
 
 same-length : tie.Need-same-length
 same-length c = search needs
 
 returns : tie.Need-returns
-returns c =
-    let costs = c .before .before .before .before .before .before .before .before .both in
-    line-table _ (costs .last .1 .0) (costs .last .1 .1 .0) (c .before .before .before .before .before .before .before .before .before .before .before .before .pre .0 .k .0) (costs .ensures)
-    (c .before .before .draw .ensures)
+returns c = c .before .before .draw .ensures
 
 pub mark-spec : {M : Type 1} → statement M
 mark-spec =

@@ -26,7 +26,7 @@ slice-aggregate-put-clear : tie.Need-slice-aggregate-put-clear
 slice-aggregate-put-clear c = search needs
 
 put-clear-requires : tie.Need-put-clear-requires
-put-clear-requires c κs = (fills _ (c .before .before .before .before .before .before .before .before .before .before .pre .valid) (search needs), omega arith)
+put-clear-requires c κs = (fills _ (c .before .before .before .before .before .before .before .before .before .before .pre .0) (search needs), omega arith)
 
 enum-told-2 : tie.Need-enum-told-2
 enum-told-2 c = search needs
@@ -62,7 +62,7 @@ put-found-requires c κs =
     let arm = c .before .before .before in
     let told = rw (arm .n .given .1) at (arm .before .before .before .before .judge .ensures) in
     let start = arm .before .before .before .before .before .before .before .before in
-    le-trans (found-room (start .pre .valid) (told .0 .1 .0) (told .1 .1) (search needs)) (start .pre .room .room)
+    le-trans (found-room (start .pre .0) (told .0 .1 .0) (told .1 .1) (search needs)) (start .pre .1)
 
 enum-known-n-2 : tie.Need-enum-known-n-2
 enum-known-n-2 c = search needs
@@ -97,13 +97,13 @@ returns-3 c =
     let told = rw (arm .n .given .1) at (arm .before .before .before .before .judge .ensures) in
     let start = arm .before .before .before .before .before .before .before .before in
     held-within (tells-found (told .0 .1) (told .1 .1) (stored-steps (told .1 .1) (search needs))) (c .before .before .put-found .ensures)
-    (found-room (start .pre .valid) (told .0 .1 .0) (told .1 .1) (search needs)) (start .pre .room .room)
+    (found-room (start .pre .0) (told .0 .1 .0) (told .1 .1) (search needs)) (start .pre .1)
 
 returns-4 : tie.Need-returns-4
 returns-4 c =
     let arm = c .before in
     let told = rw (arm .n2 .given .1) at (arm .before .before .before .before .judge .ensures) in
-    not-refused _ (arm .before .before .before .before .before .before .before .before .pre .valid) (search needs) (search needs) (told .0 .0)
+    not-refused _ (arm .before .before .before .before .before .before .before .before .pre .0) (search needs) (search needs) (told .0 .0)
 
 pub judged-spec : {M : Type 1} → statement M
 judged-spec =

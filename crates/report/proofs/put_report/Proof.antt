@@ -15,7 +15,7 @@ enum-told c = search needs
 judged-requires : tie.Need-judged-requires
 judged-requires c κs =
     let kept = rw (c .before .enum-told .given .1) at (c .before .before .before .read .ensures .1) in
-    record { valid = kept .valid; room = search needs }
+    (kept .valid, search needs)
 
 enum-known-answer : tie.Need-enum-known-answer
 enum-known-answer c = search needs
@@ -46,7 +46,7 @@ returns-2 c =
     let put = c .before .before .put-line .ensures in
     let short = refused-short (arm .answer .given .0 .0) (search needs) in
     held (refusal _ (arm .before .before .read .ensures .0) (arm .answer .given .1)) put
-    (omega (arith, arm .before .before .before .before .before .pre .room, put .ends))
+    (omega (arith, arm .before .before .before .before .before .pre, put .ends))
 
 pub put-report-spec : {M : Type 1} → statement M
 put-report-spec =

@@ -1,9 +1,9 @@
 -- `bit_of` meets its contract: each test of the code decides a part of the mark.
 use native.Mathlib.Omega.{arith}
 use borrow.Author.Needs.{needs}
-use Rattle.reach.proofs.Marked.{bit-spare, bit-clear, bit-set}
-use Rattle.reach.proofs.draw.bit_of.Statement.{statement}
-use Rattle.reach.proofs.draw.bit_of.Tie as tie
+use Rattle.draw.proofs.Marked.{bit-spare, bit-clear, bit-set}
+use Rattle.draw.proofs.bit_of.Statement.{statement}
+use Rattle.draw.proofs.bit_of.Tie as tie
 
 returns : tie.Need-returns
 returns c = bit-spare _ _ _ _ _ (c .before .before .before .pre .0 .4) (c .if1 .taken)

@@ -1,9 +1,9 @@
 -- `refusal` meets its contract: its tests are those of the definition, in order.
 use native.Mathlib.Omega.{arith}
 use borrow.Author.Needs.{needs}
-use Rattle.reach.proofs.Answers.{faulty, short, enough}
-use Rattle.reach.proofs.refusal.Statement.{statement}
-use Rattle.reach.proofs.refusal.Tie as tie
+use Rattle.draw.proofs.Refusals.{faulty, short, enough}
+use Rattle.draw.proofs.refusal.Statement.{statement}
+use Rattle.draw.proofs.refusal.Tie as tie
 
 fault-requires : tie.Need-fault-requires
 fault-requires c κs = search needs

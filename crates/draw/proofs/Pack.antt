@@ -7,7 +7,7 @@ use native.Mathlib.Numerals.{add-one}
 use native.Mathlib.Omega.{arith}
 use lib.Dec.{eqb}
 use Rattle.model.specs.Bits.{bit, oneIf}
-use Rattle.reach.specs.Marks.{Holds}
+use Rattle.draw.specs.Marks.{Packs}
 
 -- The number of n marks from place p on, lowest bit first.
 abbrev packed : (ℕ → Bool) → ℕ → ℕ → ℕ
@@ -61,5 +61,5 @@ packed-room {f} {p} {n} h e d =
     omega (arith, d .same, packed-below f n p, bit-small (f (p - 1)))
 
 -- Eight marks are a byte.
-pub packed-byte : {f : ℕ → Bool} {p n byte : ℕ} (at : ℕ) → n ≡ 8 → p ≡ 8 * at → Packed f p n byte → Holds f byte at
+pub packed-byte : {f : ℕ → Bool} {p n byte : ℕ} (at : ℕ) → n ≡ 8 → p ≡ 8 * at → Packed f p n byte → Packs f byte at
 packed-byte {f} at l m d j h = rw (d .same, l, m) (bit-packed f 8 (8 * at) j h)

@@ -4,15 +4,15 @@ use Prim.Native.Nat.{_*_, _-_, _≤_}
 use native.Mathlib.Nat.{mod-lt}
 use native.Mathlib.Omega.{arith}
 use borrow.Author.Needs.{needs}
-use Rattle.reach.proofs.Full.{Padding, padding-starts, padding-steps, padding-ends, padding-small, product-small}
-use Rattle.reach.proofs.draw.pad.Statement.{statement}
-use Rattle.reach.proofs.draw.pad.Tie as tie
+use Rattle.draw.proofs.Full.{Padding, padding-starts, padding-steps, padding-ends, padding-small, product-small}
+use Rattle.draw.proofs.pad.Statement.{statement}
+use Rattle.draw.proofs.pad.Tie as tie
 
 abbrev Inv-loop : tie.InvT-loop
-Inv-loop g k n q last full v₀ i₀ v i = (i ≤ 2 * k) × Padding g n q i v
+Inv-loop g k size short last full v₀ i₀ v i = (i ≤ 2 * k) × Padding g size short i v
 
 abbrev μ-loop : tie.MeasureT-loop
-μ-loop g k n q last full v₀ i₀ v i = full - i
+μ-loop g k size short last full v₀ i₀ v i = full - i
 
 -- What a turn multiplies is small.
 small : (c : tie.In-loop Inv-loop μ-loop) → c .before .loop .v * c .before .before .args .g ≤ 16384
@@ -33,7 +33,7 @@ mul-v : tie.Need-mul-v Inv-loop μ-loop
 mul-v c = omega (arith, small c)
 
 add-v : tie.Need-add-v Inv-loop μ-loop
-add-v c = omega (arith, small c, mod-lt (c .before .before .args .q) (c .before .before .pre .0))
+add-v c = omega (arith, small c, mod-lt (c .before .before .args .short) (c .before .before .pre .0))
 
 add-i : tie.Need-add-i Inv-loop μ-loop
 add-i c = search needs

@@ -1,16 +1,16 @@
--- `full_of` meets its contract. The invariant: the lines of up to m states are passed, and q of the place is left.
+-- `full_of` meets its contract. The invariant: the lines of up to `passed` states are behind, and `rest` of the place is left.
 use Prim.Native.Nat.{_*_, _-_}
 use native.Mathlib.Omega.{arith}
 use borrow.Author.Needs.{needs}
-use Rattle.reach.proofs.Full.{Reached, reached-starts, reached-steps, reached-small, reached-ends, product-small}
-use Rattle.reach.proofs.draw.full_of.Statement.{statement}
-use Rattle.reach.proofs.draw.full_of.Tie as tie
+use Rattle.draw.proofs.Full.{Reached, reached-starts, reached-steps, reached-small, reached-ends, product-small}
+use Rattle.draw.proofs.full_of.Statement.{statement}
+use Rattle.draw.proofs.full_of.Tie as tie
 
 abbrev Inv-loop : tie.InvT-loop
-Inv-loop g k p q₀ m₀ power₀ q m power = Reached g k p q m power
+Inv-loop g k p rest₀ passed₀ power₀ rest passed power = Reached g k p rest passed power
 
 abbrev μ-loop : tie.MeasureT-loop
-μ-loop g k p q₀ m₀ power₀ q m power = 2 * k - m
+μ-loop g k p rest₀ passed₀ power₀ rest passed power = 2 * k - passed
 
 loop-holds : tie.Need-loop-holds Inv-loop μ-loop
 loop-holds c = reached-starts _ _ _ (c .pre .2)
@@ -20,8 +20,8 @@ mul-power c =
     let start = c .before .before in
     omega (arith, product-small (reached-small (start .pre .1) (start .pre .3) (c .before .loop .inv)) (start .pre .1))
 
-add-m : tie.Need-add-m Inv-loop μ-loop
-add-m c = search needs
+add-passed : tie.Need-add-passed Inv-loop μ-loop
+add-passed c = search needs
 
 loop-less : tie.Need-loop-less Inv-loop μ-loop
 loop-less c = search needs
@@ -49,7 +49,7 @@ full-of-spec =
     μ-loop
     loop-holds
     mul-power
-    add-m
+    add-passed
     loop-less
     loop-again
     add-pad

@@ -11,8 +11,8 @@ use borrow.Author.Tests.{le-leb, le-ltb, lt-ltb}
 use Rattle.model.specs.Bits.{oneIf}
 use Rattle.model.specs.Lines.{bits}
 use Rattle.model.proofs.Tests.{both, order}
-use Rattle.reach.specs.Bits.{fullAt}
-use Rattle.reach.specs.Marks.{marked}
+use Rattle.draw.specs.Full.{fullAt}
+use Rattle.draw.specs.Marks.{drawnAt}
 
 -- A test that does not pass has the bit 0.
 unset : (m : Bool) → (T m → ⊥) → 0 ≡ oneIf m
@@ -25,19 +25,19 @@ module _ (g k : ℕ) (a b : List ℕ) (p : ℕ) where
   Follows = (getD a (fullAt g k p) 0 ≤ 4096) × (getD b (fullAt g k p) 0 ≤ 4096)
 
   -- A place past the last line is not marked.
-  pub spare-place : bits g k ≤ p → marked g k a b p ≡ false
-  unfolding marked
+  pub spare-place : bits g k ≤ p → drawnAt g k a b p ≡ false
+  unfolding drawnAt
   spare-place h = rw (le-ltb p (bits g k) h)
 
-  both-follow : p < bits g k → Follows → marked g k a b p ≡ true
-  unfolding marked
+  both-follow : p < bits g k → Follows → drawnAt g k a b p ≡ true
+  unfolding drawnAt
   both-follow h f =
       rw (lt-ltb p (bits g k) h, le-leb (getD a (fullAt g k p) 0) 4096 (f .0), le-leb (getD b (fullAt g k p) 0) 4096 (f .1))
 
   -- A place with a line is marked exactly if both can follow.
-  pub marked-follows : p < bits g k → T (marked g k a b p) ↔ Follows
-  unfolding marked
-  marked-follows h =
+  pub drawn-follows : p < bits g k → T (drawnAt g k a b p) ↔ Follows
+  unfolding drawnAt
+  drawn-follows h =
       let line : Bool = ltb p (bits g k) in
       let first : Bool = leb (getD a (fullAt g k p) 0) 4096 in
       let second : Bool = leb (getD b (fullAt g k p) 0) 4096 in (
@@ -48,14 +48,14 @@ module _ (g k : ℕ) (a b : List ℕ) (p : ℕ) where
       )
 
   -- The bit of a place, by the tests in turn: there are `count` lines, and v is the full line.
-  pub bit-spare : {count : ℕ} → count ≡ bits g k → count ≤ p → 0 ≡ oneIf (marked g k a b p)
+  pub bit-spare : {count : ℕ} → count ≡ bits g k → count ≤ p → 0 ≡ oneIf (drawnAt g k a b p)
   bit-spare e h = let s : bits g k ≤ p = omega arith in rw spare-place
 
   module _ {count v : ℕ} (e : count ≡ bits g k) (h : p < count) (f : v ≡ fullAt g k p) where
-    pub bit-clear : ((getD a v 0 ≤ 4096) × (getD b v 0 ≤ 4096) → ⊥) → 0 ≡ oneIf (marked g k a b p)
+    pub bit-clear : ((getD a v 0 ≤ 4096) × (getD b v 0 ≤ 4096) → ⊥) → 0 ≡ oneIf (drawnAt g k a b p)
     bit-clear n =
         let s : p < bits g k = omega arith in
-        unset (marked g k a b p) (λ t. n (rw f (marked-follows s .0 t)))
+        unset (drawnAt g k a b p) (λ t. n (rw f (drawn-follows s .0 t)))
 
-    pub bit-set : getD a v 0 ≤ 4096 → getD b v 0 ≤ 4096 → 1 ≡ oneIf (marked g k a b p)
+    pub bit-set : getD a v 0 ≤ 4096 → getD b v 0 ≤ 4096 → 1 ≡ oneIf (drawnAt g k a b p)
     bit-set l m = let s : p < bits g k = omega arith in rw (both-follow s (rw (← f) (l, m)))

@@ -1,18 +1,19 @@
--- `byte_of` meets its contract. The invariant: the byte holds the n marks from place p on, up to the last of its eight.
+-- `byte_of` meets its contract. The invariant: the byte holds the marks taken, from place p on, up to the last of its eight.
 use mathlib.Core.Path.{_≡_, refl}
 use Prim.Native.Nat.{_+_, _*_, _-_, _≤_, _<_}
 use native.Mathlib.Omega.{arith}
 use borrow.Author.Needs.{needs}
-use Rattle.reach.specs.Marks.{marked}
-use Rattle.reach.proofs.Pack.{Packed, packed-starts, packed-steps, packed-room, packed-byte}
-use Rattle.reach.proofs.draw.byte_of.Statement.{statement}
-use Rattle.reach.proofs.draw.byte_of.Tie as tie
+use Rattle.draw.specs.Marks.{drawnAt}
+use Rattle.draw.proofs.Pack.{Packed, packed-starts, packed-steps, packed-room, packed-byte}
+use Rattle.draw.proofs.byte_of.Statement.{statement}
+use Rattle.draw.proofs.byte_of.Tie as tie
 
 abbrev Inv-loop : tie.InvT-loop
-Inv-loop g k count at a b byte₀ p₀ n₀ byte p n = (n ≤ 8) × (p + n ≡ 8 * at + 8) × Packed (marked g k a b) p n byte
+Inv-loop g k count at a b byte₀ p₀ taken₀ byte p taken =
+    (taken ≤ 8) × (p + taken ≡ 8 * at + 8) × Packed (drawnAt g k a b) p taken byte
 
 abbrev μ-loop : tie.MeasureT-loop
-μ-loop g k count at a b byte₀ p₀ n₀ byte p n = 8 - n
+μ-loop g k count at a b byte₀ p₀ taken₀ byte p taken = 8 - taken
 
 mul-p : tie.Need-mul-p Inv-loop μ-loop
 mul-p c = search needs
@@ -36,8 +37,8 @@ add-byte : tie.Need-add-byte Inv-loop μ-loop
 add-byte c =
     omega (arith, packed-room (c .before .loop-test .taken) (c .bit-of .ensures) (c .before .before .loop .inv .2))
 
-add-n : tie.Need-add-n Inv-loop μ-loop
-add-n c = search needs
+add-taken : tie.Need-add-taken Inv-loop μ-loop
+add-taken c = search needs
 
 loop-less : tie.Need-loop-less Inv-loop μ-loop
 loop-less c = search needs
@@ -49,7 +50,7 @@ loop-again c =
 
 returns : tie.Need-returns Inv-loop μ-loop
 returns c =
-    let eight : c .before .loop .n ≡ 8 = omega arith in
+    let eight : c .before .loop .taken ≡ 8 = omega arith in
     let first : c .before .loop .p ≡ 8 * c .before .before .before .before .args .at = omega arith in
     packed-byte _ eight first (c .before .loop .inv .2)
 
@@ -66,7 +67,7 @@ byte-of-spec =
     mul-byte
     bit-of-requires
     add-byte
-    add-n
+    add-taken
     loop-less
     loop-again
     returns)

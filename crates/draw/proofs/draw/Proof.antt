@@ -4,17 +4,18 @@ use Prim.Native.Nat.{_+_, _-_, _/_, _≤_}
 use native.Mathlib.Omega.{arith}
 use borrow.Author.Needs.{needs}
 use Rattle.model.specs.Lines.{bits}
-use Rattle.reach.specs.Bits.{bytesFor}
-use Rattle.reach.specs.Marks.{marked}
-use Rattle.reach.proofs.Written.{Written, written-starts, written-steps, written-drawn, bits-counted}
-use Rattle.reach.proofs.draw.draw.Statement.{statement}
-use Rattle.reach.proofs.draw.draw.Tie as tie
+use Rattle.model.specs.Tables.{bytesFor}
+use Rattle.draw.specs.Marks.{drawnAt}
+use Rattle.draw.proofs.Written.{Written, written-starts, written-steps, written-table, bits-counted}
+use Rattle.draw.proofs.draw.Statement.{statement}
+use Rattle.draw.proofs.draw.Tie as tie
 
 abbrev Inv-loop : tie.InvT-loop
-Inv-loop store₀ g k a b count bytes at₀ store at = (count ≡ bits g k) × (at ≤ bytes) × Written (marked g k a b) bytes store₀ store at
+Inv-loop m store₀ a b count bytes at₀ store at =
+    (count ≡ bits (m .g) (m .k)) × (at ≤ bytes) × Written (drawnAt (m .g) (m .k) a b) bytes store₀ store at
 
 abbrev μ-loop : tie.MeasureT-loop
-μ-loop store₀ g k a b count bytes at₀ store at = bytes - at
+μ-loop m store₀ a b count bytes at₀ store at = bytes - at
 
 line-bits-requires : tie.Need-line-bits-requires Inv-loop μ-loop
 line-bits-requires c κs = search needs
@@ -27,9 +28,13 @@ add-bytes c = search needs
 
 loop-holds : tie.Need-loop-holds Inv-loop μ-loop
 loop-holds c =
-    let start = c .before .before .before .before in
-    let lines = bits-counted _ _ (start .pre .0 .0) (start .pre .0 .1) (start .pre .0 .2) (start .pre .0 .3) in
-    (c .line-bits .ensures ∙ lines, search needs, written-starts _ _ _)
+    (c .line-bits .ensures ∙ bits-counted (c .before .before .before .before .pre .0), search needs, written-starts _ _ _)
+
+cast-byte-of : tie.Need-cast-byte-of Inv-loop μ-loop
+cast-byte-of c = search needs
+
+cast-byte-of-2 : tie.Need-cast-byte-of-2 Inv-loop μ-loop
+cast-byte-of-2 c = search needs
 
 byte-of-requires : tie.Need-byte-of-requires Inv-loop μ-loop
 byte-of-requires c κs = search needs
@@ -45,8 +50,9 @@ loop-less c = search needs
 
 loop-again : tie.Need-loop-again Inv-loop μ-loop
 loop-again c =
-    let written = c .before .before .loop .inv .2 in
-    (search needs, search needs, written-steps _ (c .before .loop-test .taken) (omega arith) (c .byte-of .ensures) written)
+    let test = c .before .before .before in
+    let written = test .before .loop .inv .2 in
+    (search needs, search needs, written-steps _ (test .loop-test .taken) (omega arith) (c .byte-of .ensures) written)
 
 same-length : tie.Need-same-length Inv-loop μ-loop
 same-length c = c .before .loop .inv .2 .front .size
@@ -54,10 +60,10 @@ same-length c = c .before .loop .inv .2 .front .size
 returns : tie.Need-returns Inv-loop μ-loop
 returns c =
     let start = c .before .before .before .before .before .before in
-    let all = bytesFor (start .args .g) (start .args .k) in
+    let all = bytesFor (start .args .m .g) (start .args .m .k) in
     let size : (c .before .before .line-bits .result + 7) / 8 ≡ all = omega arith in
     let whole : c .before .loop .at ≡ all = omega arith in
-    written-drawn _ _ _ _ size whole (c .before .loop .inv .2)
+    written-table _ _ _ (start .pre .0 .k .0) (start .pre .1 .1 .1) size whole (c .before .loop .inv .2)
 
 pub draw-spec : {M : Type 1} → statement M
 draw-spec =
@@ -69,6 +75,8 @@ draw-spec =
     cast-count
     add-bytes
     loop-holds
+    cast-byte-of
+    cast-byte-of-2
     byte-of-requires
     slice-write-store
     add-at

@@ -1,5 +1,5 @@
--- A line of the table is marked exactly if both threads can follow the full line that stands for it: padding keeps marks,
--- a run is both views, and a cost of at most 4,096 says that there is a view.
+-- A line is marked exactly if both threads can follow the full line that stands for it: padding keeps marks, a run is both
+-- views, and a cost of at most 4,096 says that there is a view.
 use mathlib.Core.List.{List, [], _∷_, _++_}
 use mathlib.Core.Logic.{_↔_, Iff·trans}
 use mathlib.Core.Path.{_≡_, refl, subst}
@@ -7,21 +7,20 @@ use Prim.Native.Nat.{ℕ, zero, suc, _-_, _*_, _^_, _≤_, _<_}
 use native.Mathlib.Omega.{arith}
 use lib.ListN.{length, getD, replicate, length-append, length-replicate}
 use Rattle.model.specs.declared.Model.{Model}
-use Rattle.model.specs.Lines.{bits, States, Line, lastOf, value, digits, lineAt}
+use Rattle.model.specs.Lines.{States, Line, lastOf, value, digits}
 use Rattle.model.specs.Runs.{Marked}
 use Rattle.model.specs.declared.ThreadId.{ThreadId}
 use Rattle.model.specs.declared.ThreadId.the-variants.{A, B}
 use Rattle.model.specs.Walk.{threadOf}
-use Rattle.model.proofs.Positions.{value-below, length-digits, digits-value, line-at}
+use Rattle.model.proofs.Positions.{value-below, length-digits, digits-value}
 use Rattle.model.proofs.Turns.{marked-padded}
-use Rattle.reach.specs.Answer.{LineTable}
-use Rattle.reach.specs.Bits.{padded, fullAt, Drawn}
 use Rattle.costs.specs.Cost.{ViewCost, Costs, BothCosts}
 use Rattle.costs.proofs.Along.{view-cost}
 use Rattle.costs.proofs.Views.{marked-views}
+use Rattle.draw.specs.Full.{padded}
 
 -- A line is marked exactly if both costs are reached.
-pub marked-costs : (m : Model) (line : List ℕ) {a b : ℕ}
+marked-costs : (m : Model) (line : List ℕ) {a b : ℕ}
     → ViewCost m A line a → ViewCost m B line b → Marked m line ↔ ((a ≤ 4096) × (b ≤ 4096))
 marked-costs m line p q = (
   λ r. let v = marked-views line .0 r in (p .least (v .2) .0, q .least (v .3) .0),
@@ -29,34 +28,34 @@ marked-costs m line p q = (
 )
 
 -- The last state of a line that has one.
-last-any : (g h : ℕ) (line : List ℕ) → 0 < length line → lastOf g line ≡ lastOf h line
-last-any g h [] p = absurd (omega arith)
-last-any g h (x ∷ line) p = refl
+last-any : (p q : ℕ) (line : List ℕ) → 0 < length line → lastOf p line ≡ lastOf q line
+last-any p q [] h = absurd (omega arith)
+last-any p q (x ∷ line) h = refl
 
-last-state : (G g : ℕ) (line : List ℕ) → g < G → States G line → lastOf g line < G
-last-state G g [] h s = h
-last-state G g (x ∷ line) h s = last-state G x line (s .0) (s .1)
+last-state : (g q : ℕ) (line : List ℕ) → q < g → States g line → lastOf q line < g
+last-state g q [] h s = h
+last-state g q (x ∷ line) h s = last-state g x line (s .0) (s .1)
 
-last-low : (G g : ℕ) (line : List ℕ) → 0 < length line → States G line → lastOf g line < G
-last-low G g [] h s = absurd (omega arith)
-last-low G g (x ∷ line) h s = last-state G x line (s .0) (s .1)
+last-low : (g q : ℕ) (line : List ℕ) → 0 < length line → States g line → lastOf q line < g
+last-low g q [] h s = absurd (omega arith)
+last-low g q (x ∷ line) h s = last-state g x line (s .0) (s .1)
 
-repeated : (G x n : ℕ) → x < G → States G (replicate n x)
-repeated G x zero h = tt
-repeated G x (suc n) h = (h, repeated G x n h)
+repeated : (g q n : ℕ) → q < g → States g (replicate n q)
+repeated g q zero h = tt
+repeated g q (suc n) h = (h, repeated g q n h)
 
-states-append : (G : ℕ) (l r : List ℕ) → States G l → States G r → States G (l ++ r)
-states-append G [] r p q = q
-states-append G (x ∷ l) r p q = (p .0, states-append G l r (p .1) q)
+states-append : (g : ℕ) (l r : List ℕ) → States g l → States g r → States g (l ++ r)
+states-append g [] r s t = t
+states-append g (x ∷ l) r s t = (s .0, states-append g l r (s .1) t)
 
 -- A padded line is a full line.
-pub full-length : {G k : ℕ} {line : List ℕ} → Line G k line → length (padded k line) ≡ 2 * k
+full-length : {g k : ℕ} {line : List ℕ} → Line g k line → length (padded k line) ≡ 2 * k
 full-length l = rw (length-append, length-replicate) (omega (arith, l .most))
 
-pub full-states : {G k : ℕ} {line : List ℕ} → Line G k line → States G (padded k line)
-full-states {G} {k} {line} l =
-    states-append G line (replicate (2 * k - length line) (lastOf 0 line)) (l .states)
-    (repeated G (lastOf 0 line) (2 * k - length line) (last-low G 0 line (l .some) (l .states)))
+full-states : {g k : ℕ} {line : List ℕ} → Line g k line → States g (padded k line)
+full-states {g} {k} {line} l =
+    states-append g line (replicate (2 * k - length line) (lastOf 0 line)) (l .states)
+    (repeated g (lastOf 0 line) (2 * k - length line) (last-low g 0 line (l .some) (l .states)))
 
 -- A list of costs has, at the value of each full line, the least steps of the thread's views of that line.
 pub line-cost : (m : Model) (i : ThreadId) (costs : List ℕ) → 1 ≤ m .k
@@ -80,27 +79,14 @@ full-cost m i costs k c line size states =
     subst (λ n. digits (m .g) n v ≡ line) size (digits-value (m .g) line states) in
     (low, subst (λ l. ViewCost m i l (getD costs v 0)) same (line-cost m i costs k c v low))
 
--- Which lines of the table are marked, from the costs of both threads.
-drawn : (m : Model) (a b : List ℕ) → 1 ≤ m .k → BothCosts m a b → (p : ℕ) → p < bits (m .g) (m .k)
-    → Marked m (lineAt (m .g) (m .k) p) ↔ ((getD a (fullAt (m .g) (m .k) p) 0 ≤ 4096) × (getD b (fullAt (m .g) (m .k) p) 0 ≤ 4096))
-drawn m a b k c p h =
-    let l = line-at (m .g) (m .k) p h in
-    let line : List ℕ = lineAt (m .g) (m .k) p in
+-- Both costs of the full line that stands for a line say whether the line is marked.
+pub marked-full : (m : Model) (a b : List ℕ) → 1 ≤ m .k → BothCosts m a b → (line : List ℕ) → Line (m .g) (m .k) line
+    → ((getD a (value (m .g) (padded (m .k) line)) 0 ≤ 4096) × (getD b (value (m .g) (padded (m .k) line)) 0 ≤ 4096)) ↔ Marked m line
+marked-full m a b k c line l =
     let full : List ℕ = padded (m .k) line in
     let one = full-cost m A a k (c .0) full (full-length l) (full-states l) in
     let other = full-cost m B b k (c .1) full (full-length l) (full-states l) in
     let padding : Marked m line ↔ Marked m full =
     rw (last-any (m .start .0) 0 line (l .some)) at (marked-padded {m = m} (2 * m .k - length line) line) in
-    Iff·trans padding (marked-costs m full (one .1) (other .1))
-
--- A store drawn from the costs of both threads holds the model's line table.
-pub line-table : (m : Model) (a b : List ℕ) {old new : List ℕ} → 1 ≤ m .k → BothCosts m a b
-    → Drawn (m .g) (m .k) (λ p. (getD a (fullAt (m .g) (m .k) p) 0 ≤ 4096) × (getD b (fullAt (m .g) (m .k) p) 0 ≤ 4096)) old new
-    → LineTable m old new
-line-table m a b k c d =
-    record {
-      size = d .size;
-      marks = λ p h. let e = drawn m a b k c p h in Iff·trans (d .marks p h) (e .1, e .0);
-      spare = d .spare;
-      beyond = d .beyond;
-    }
+    let e = Iff·trans padding (marked-costs m full (one .1) (other .1)) in
+    (e .1, e .0)

@@ -1,0 +1,7 @@
+pub mod Full
+pub mod Marked
+pub mod Marks
+pub mod Pack
+pub mod Places
+pub mod Refusals
+pub mod Written
