@@ -46,33 +46,33 @@ unfoldable pub closed : Model → ℕ → List Place → Bool
 closed m limit set = known set (startPlace m) && all (follows m limit set) set
 
 -- A run so far is at a place of the set.
-pub record At (set : List Place) (before : List ℕ) (n g : ℕ) (σ : Stacks) : Type 0 where
+pub record At (set : List Place) (before : List ℕ) (n q : ℕ) (σ : Stacks) : Type 0 where
   pub place : Place
   pub inside : T (known set place)
-  pub holds : Describes place before n g σ
+  pub holds : Describes place before n q σ
 
 -- Then a place describes it that passes a test which all places of the set pass.
-pub passes : (f : Place → Bool) {set : List Place} {before : List ℕ} {n g : ℕ} {σ : Stacks} → At set before n g σ → T (all f set)
-    → (c : Place) × T (f c) × Describes c before n g σ
+pub passes : (f : Place → Bool) {set : List Place} {before : List ℕ} {n q : ℕ} {σ : Stacks} → At set before n q σ → T (all f set)
+    → (c : Place) × T (f c) × Describes c before n q σ
 passes f {set} h t =
     let z = pick f (within (h .place)) set t (h .inside) in
     (z .0, z .1, within-describes (h .place) (z .0) (z .2) (h .holds))
 
-module _ (m : Model) (limit : ℕ) (set : List Place) (t : T (all (follows m limit set) set)) where
+module _ (m : Model) (limit : ℕ) (set : List Place) (all-follow : T (all (follows m limit set) set)) where
   -- A run that goes on from a place of the set stays in it.
-  stays : {q g : ℕ} {σ : Stacks} {line : List ℕ} {ss : List Step} → Turns m q g σ line ss
-      → (before : List ℕ) (n : ℕ) → length before ≡ q → q + length line ≤ 2 * m .k → At set before n g σ
-      → (τ : Stacks) × At set (before ++ line) (n + length ss) (lastOf g line) τ
+  stays : {t q : ℕ} {σ : Stacks} {line : List ℕ} {ss : List Step} → Turns m t q σ line ss
+      → (before : List ℕ) (n : ℕ) → length before ≡ t → t + length line ≤ 2 * m .k → At set before n q σ
+      → (τ : Stacks) × At set (before ++ line) (n + length ss) (lastOf q line) τ
   stays {σ = σ} stop before n e h k = (σ, rw (append-nil, add-zero) k)
-  stays (end {g = g} r) before n e h k =
-      let c = passes (follows m limit set) k t in
+  stays (end {q = q} r) before n e h k =
+      let c = passes (follows m limit set) k all-follow in
       let p = next-end (known set) m limit (c .0) (c .2) (omega arith) (c .1) in
-      let rest = stays r (before ++ (g ∷ [])) n (rw length-append (omega arith)) (omega arith)
+      let rest = stays r (before ++ (q ∷ [])) n (rw length-append (omega arith)) (omega arith)
       (record { place = ended (c .0); inside = p .0; holds = p .1 }) in
       (rest .0, rw append-assoc at (rest .1))
-  stays (move {t = q} {r = r} {top = x} {w = w} {ss = ss} e a u) before n z h k =
-      let c = passes (follows m limit set) k t in
-      let p = next-move (known set) m limit (c .0) (c .2) (omega arith) (c .1) q z r x w e a in
+  stays (move {t = t} {r = r} {top = x} {w = w} {ss = ss} e a u) before n z h k =
+      let c = passes (follows m limit set) k all-follow in
+      let p = next-move (known set) m limit (c .0) (c .2) (omega arith) (c .1) t z r x w e a in
       let rest = stays u before (suc n) z h (record { place = p .0; inside = p .1; holds = p .2 }) in
       let same : suc n + length ss ≡ n + suc (length ss) = omega arith in
       (rest .0, rw same at (rest .1))

@@ -29,10 +29,10 @@ pub record Place : Type 0 where
   pub b : Shape
 
 -- A place describes a run so far: where its turns ended, its steps, and the shared state and stacks it has come to.
-pub record Describes (c : Place) (before : List ℕ) (n g : ℕ) (σ : Stacks) : Type 0 where
+pub record Describes (c : Place) (before : List ℕ) (n q : ℕ) (σ : Stacks) : Type 0 where
   pub line : c .line ≡ before
   pub steps : c .steps ≤ n
-  pub shared : c .shared ≡ g
+  pub shared : c .shared ≡ q
   pub a : Matches (c .a) (σ .a)
   pub b : Matches (c .b) (σ .b)
 
@@ -42,8 +42,8 @@ within c d =
     eqb (c .shared) (d .shared) && leb (d .steps) (c .steps) && under (c .a) (d .a) && under (c .b) (d .b) &&
     alike (c .line) (d .line)
 
-pub within-describes : (c d : Place) {line : List ℕ} {n g : ℕ} {σ : Stacks} → T (within c d)
-    → Describes c line n g σ → Describes d line n g σ
+pub within-describes : (c d : Place) {line : List ℕ} {n q : ℕ} {σ : Stacks} → T (within c d)
+    → Describes c line n q σ → Describes d line n q σ
 within-describes c d {σ = σ} t h =
     let w = simp tests at t in
     record {
@@ -63,10 +63,10 @@ abbrev pub shapeOf : ThreadId → Place → Shape
 shapeOf A c = c .a
 shapeOf B c = c .b
 
--- The place after a step of a thread to state g that leaves its stack so.
+-- The place after a step of a thread to state q that leaves its stack so.
 abbrev pub moved : ℕ → ThreadId → Place → ℕ → Shape → Place
-moved limit A c g s = record { line = c .line; steps = counted limit (c .steps); shared = g; a = s; b = c .b }
-moved limit B c g s = record { line = c .line; steps = counted limit (c .steps); shared = g; a = c .a; b = s }
+moved limit A c q s = record { line = c .line; steps = counted limit (c .steps); shared = q; a = s; b = c .b }
+moved limit B c q s = record { line = c .line; steps = counted limit (c .steps); shared = q; a = c .a; b = s }
 
 -- The places after a step by a rule.
 abbrev pub byRule : ℕ → ThreadId → Place → Rule → List Place
@@ -78,9 +78,9 @@ abbrev pub byRules : ℕ → ThreadId → Place → Thread → ℕ → List Plac
 byRules limit i c t zero = []
 byRules limit i c t (suc r) = byRule limit i c (ruleAt t r) ++ byRules limit i c t r
 
--- The places after a step in turn q.
+-- The places after a step in turn t.
 abbrev pub inTurn : ℕ → Model → Place → ℕ → List Place
-inTurn limit m c q = byRules limit (ownerOf q) c (threadOf (ownerOf q) m) (threadOf (ownerOf q) m .count)
+inTurn limit m c t = byRules limit (ownerOf t) c (threadOf (ownerOf t) m) (threadOf (ownerOf t) m .count)
 
 -- The place after the turn's end.
 abbrev pub ended : Place → Place
@@ -99,27 +99,27 @@ counted-most limit k n h = go (ltb k limit)
     go true = omega arith
     go false = omega arith
 
-moved-describes : (limit : ℕ) (i : ThreadId) (c : Place) (h : ℕ) (s : Shape) (w : List ℕ) {line : List ℕ} {n g : ℕ} {σ : Stacks}
-    → Describes c line n g σ → Matches s w → Describes (moved limit i c h s) line (suc n) h (withStack i w σ)
+moved-describes : (limit : ℕ) (i : ThreadId) (c : Place) (h : ℕ) (s : Shape) (w : List ℕ) {line : List ℕ} {n q : ℕ} {σ : Stacks}
+    → Describes c line n q σ → Matches s w → Describes (moved limit i c h s) line (suc n) h (withStack i w σ)
 moved-describes limit A c h s w {n = n} p o =
     record { line = p .line; steps = counted-most limit (c .steps) n (p .steps); shared = refl; a = o; b = p .b }
 moved-describes limit B c h s w {n = n} p o =
     record { line = p .line; steps = counted-most limit (c .steps) n (p .steps); shared = refl; a = p .a; b = o }
 
-shape-matches : (i : ThreadId) (c : Place) {line : List ℕ} {n g : ℕ} {σ : Stacks} → Describes c line n g σ
+shape-matches : (i : ThreadId) (c : Place) {line : List ℕ} {n q : ℕ} {σ : Stacks} → Describes c line n q σ
     → Matches (shapeOf i c) (stackOf i σ)
 shape-matches A c p = p .a
 shape-matches B c p = p .b
 
-module _ (f : Place → Bool) (limit : ℕ) (i : ThreadId) (c : Place) {line : List ℕ} {n g : ℕ} {σ : Stacks}
-    (p : Describes c line n g σ) where
+module _ (f : Place → Bool) (limit : ℕ) (i : ThreadId) (c : Place) {line : List ℕ} {n q : ℕ} {σ : Stacks}
+    (p : Describes c line n q σ) where
   -- A place after a step by a rule: it passes a test that all places after the rule pass, and describes the run.
   abbrev After : Rule → List ℕ → Type 0
   After r w = (d : Place) × T (f d) × Describes d line (suc n) (r .after .0) (withStack i (put (r .right) w) σ)
 
-  by-rule : (r : Rule) (k : ℕ) (w : List ℕ) → stackOf i σ ≡ k ∷ w → r .before .0 ≡ g → r .symbol .0 ≡ k
+  by-rule : (r : Rule) (γ : ℕ) (w : List ℕ) → stackOf i σ ≡ γ ∷ w → r .before .0 ≡ q → r .symbol .0 ≡ γ
       → T (all f (byRule limit i c r)) → After r w
-  by-rule r k w e h l t =
+  by-rule r γ w e h l t =
       let to : Shape → Place = moved limit i c (r .after .0) in
       let shapes : List Shape = fired (r .symbol .0) (r .right) (shapeOf i c) in
       let same = passed (eqb (r .before .0) (c .shared)) (equal (r .before .0) (c .shared) .1 (h ∙ sym (p .shared))) in
@@ -128,38 +128,38 @@ module _ (f : Place → Bool) (limit : ℕ) (i : ThreadId) (c : Place) {line : L
       let z = fired-matches (λ s. f (to s)) (r .symbol .0) (r .right) (shapeOf i c) w o (all-map f to shapes u) in
       (to (z .0), z .1, moved-describes limit i c (r .after .0) (z .0) (put (r .right) w) p (z .2))
 
-  by-rules : (t : Thread) (count r k : ℕ) (w : List ℕ) → r < count → stackOf i σ ≡ k ∷ w
-      → ruleAt t r .before .0 ≡ g → ruleAt t r .symbol .0 ≡ k → T (all f (byRules limit i c t count)) → After (ruleAt t r) w
-  by-rules t zero r k w b e h l u = absurd (omega arith)
-  by-rules t (suc q) r k w b e h l u =
-      let v = all-append f (byRule limit i c (ruleAt t q)) (byRules limit i c t q) u in
-      elim (ℕ-discrete r q) [
-        | yes s ↦ by-rule (ruleAt t r) k w e h l (rw (sym s) at (v .0))
-        | no s ↦ by-rules t q r k w (omega arith) e h l (v .1)
+  by-rules : (t : Thread) (count r γ : ℕ) (w : List ℕ) → r < count → stackOf i σ ≡ γ ∷ w
+      → ruleAt t r .before .0 ≡ q → ruleAt t r .symbol .0 ≡ γ → T (all f (byRules limit i c t count)) → After (ruleAt t r) w
+  by-rules t zero r γ w b e h l u = absurd (omega arith)
+  by-rules t (suc last) r γ w b e h l u =
+      let v = all-append f (byRule limit i c (ruleAt t last)) (byRules limit i c t last) u in
+      elim (ℕ-discrete r last) [
+        | yes s ↦ by-rule (ruleAt t r) γ w e h l (rw (sym s) at (v .0))
+        | no s ↦ by-rules t last r γ w (omega arith) e h l (v .1)
       ]
 
-module _ (f : Place → Bool) (m : Model) (limit : ℕ) (c : Place) {line : List ℕ} {n g : ℕ} {σ : Stacks}
-    (p : Describes c line n g σ) (more : length line < 2 * m .k) (t : T (all f (next m limit c))) where
+module _ (f : Place → Bool) (m : Model) (limit : ℕ) (c : Place) {line : List ℕ} {n q : ℕ} {σ : Stacks}
+    (p : Describes c line n q σ) (more : length line < 2 * m .k) (u : T (all f (next m limit c))) where
   -- A test that all next places pass, where a turn is left.
   onward : T (f (ended c)) × T (all f (inTurn limit m c (length line)))
   unfolding next
   onward =
       let same : length (c .line) ≡ length line = ap length (p .line) in
-      let u : T (all f (ended c ∷ inTurn limit m c (length line))) = rw (same, lt-ltb (length line) (2 * m .k) more) at t in
-      both (f (ended c)) (all f (inTurn limit m c (length line))) .0 u
+      let v : T (all f (ended c ∷ inTurn limit m c (length line))) = rw (same, lt-ltb (length line) (2 * m .k) more) at u in
+      both (f (ended c)) (all f (inTurn limit m c (length line))) .0 v
 
   -- The turn ends ..
-  pub next-end : T (f (ended c)) × Describes (ended c) (line ++ (g ∷ [])) n g σ
+  pub next-end : T (f (ended c)) × Describes (ended c) (line ++ (q ∷ [])) n q σ
   next-end = (onward .0, record { line = cc (p .line, p .shared); steps = p .steps; shared = p .shared; a = p .a; b = p .b })
 
   -- .. or its thread makes a step.
-  pub next-move : (q : ℕ) → length line ≡ q → (r k : ℕ) (w : List ℕ) → stackOf (ownerOf q) σ ≡ k ∷ w
-      → T (applies (threadOf (ownerOf q) m) r g k)
+  pub next-move : (t : ℕ) → length line ≡ t → (r γ : ℕ) (w : List ℕ) → stackOf (ownerOf t) σ ≡ γ ∷ w
+      → T (applies (threadOf (ownerOf t) m) r q γ)
       → (d : Place) × T (f d)
-      × Describes d line (suc n) (ruleOf m q r .after .0) (withStack (ownerOf q) (put (ruleOf m q r .right) w) σ)
+      × Describes d line (suc n) (ruleOf m t r .after .0) (withStack (ownerOf t) (put (ruleOf m t r .right) w) σ)
   unfolding applies
-  next-move q z r k w e a =
-      let i : ThreadId = ownerOf q in
-      let v : T (all f (inTurn limit m c q)) = rw z at (onward .1) in
+  next-move t z r γ w e a =
+      let i : ThreadId = ownerOf t in
+      let v : T (all f (inTurn limit m c t)) = rw z at (onward .1) in
       let h = simp tests at a in
-      by-rules f limit i c p (threadOf i m) (threadOf i m .count) r k w (h .0 .0) e (h .0 .1) (h .1) v
+      by-rules f limit i c p (threadOf i m) (threadOf i m .count) r γ w (h .0 .0) e (h .0 .1) (h .1) v

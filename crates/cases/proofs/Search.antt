@@ -28,37 +28,37 @@ stacksBy m t σ w r = withStack (ownerOf t) (put (ruleOf m t r .right) w) σ
 
 -- Some run from here on follows the line, with at most so many steps and turn ends.
 unfoldable pub finds : ℕ → Model → ℕ → ℕ → Stacks → List ℕ → Bool
-finds zero m t g σ [] = true
-finds zero m t g σ (o ∷ line) = false
-finds (suc more) m t g σ [] = true
-finds (suc more) m t g σ (o ∷ line) =
-    let over = finds more m (suc t) g σ line in
-    eqb g o && over ||
+finds zero m t q σ [] = true
+finds zero m t q σ (o ∷ line) = false
+finds (suc more) m t q σ [] = true
+finds (suc more) m t q σ (o ∷ line) =
+    let over = finds more m (suc t) q σ line in
+    eqb q o && over ||
     onTop (stackOf (ownerOf t) σ) (λ x w. some (threadOf (ownerOf t) m .count) (λ r.
     let onward = finds more m t (ruleOf m t r .after .0) (stacksBy m t σ w r) (o ∷ line) in
-    applies (threadOf (ownerOf t) m) r g x && onward))
+    applies (threadOf (ownerOf t) m) r q x && onward))
 
 -- Then there is such a run.
-pub finds-run : (more : ℕ) (m : Model) (t g : ℕ) (σ : Stacks) (line : List ℕ) → T (finds more m t g σ line)
-    → (ss : List Step) × Turns m t g σ line ss
+pub finds-run : (more : ℕ) (m : Model) (t q : ℕ) (σ : Stacks) (line : List ℕ) → T (finds more m t q σ line)
+    → (ss : List Step) × Turns m t q σ line ss
 unfolding finds
-finds-run zero m t g σ [] h = ([], stop)
-finds-run zero m t g σ (o ∷ line) h = absurd h
-finds-run (suc more) m t g σ [] h = ([], stop)
-finds-run (suc more) m t g σ (o ∷ line) h =
-    let over : Bool = finds more m (suc t) g σ line in
+finds-run zero m t q σ [] h = ([], stop)
+finds-run zero m t q σ (o ∷ line) h = absurd h
+finds-run (suc more) m t q σ [] h = ([], stop)
+finds-run (suc more) m t q σ (o ∷ line) h =
+    let over : Bool = finds more m (suc t) q σ line in
     let onward : List ℕ → ℕ → Bool = λ w r. finds more m t (ruleOf m t r .after .0) (stacksBy m t σ w r) (o ∷ line) in
-    let by : ℕ → List ℕ → ℕ → Bool = λ x w r. applies (threadOf (ownerOf t) m) r g x && onward w r in
+    let by : ℕ → List ℕ → ℕ → Bool = λ x w r. applies (threadOf (ownerOf t) m) r q x && onward w r in
     let moves : ℕ → List ℕ → Bool = λ x w. some (threadOf (ownerOf t) m .count) (by x w) in
-    elim (either (eqb g o && over) (onTop (stackOf (ownerOf t) σ) moves) h) [
+    elim (either (eqb q o && over) (onTop (stackOf (ownerOf t) σ) moves) h) [
       | inl z ↦
-          let w = both (eqb g o) over .0 z in
-          let r = finds-run more m (suc t) g σ line (w .1) in
-          (r .0, subst (λ u. Turns m t g σ (u ∷ line) (r .0)) (equal g o .0 (w .0)) (end (r .1)))
+          let w = both (eqb q o) over .0 z in
+          let r = finds-run more m (suc t) q σ line (w .1) in
+          (r .0, subst (λ u. Turns m t q σ (u ∷ line) (r .0)) (equal q o .0 (w .0)) (end (r .1)))
       | inr z ↦
           let s = on-top (stackOf (ownerOf t) σ) moves z in
-          let q = some-at (threadOf (ownerOf t) m .count) (by (s .0) (s .1)) (s .3) in
-          let w = both (applies (threadOf (ownerOf t) m) (q .0) g (s .0)) (onward (s .1) (q .0)) .0 (q .1) in
-          let r = finds-run more m t (ruleOf m t (q .0) .after .0) (stacksBy m t σ (s .1) (q .0)) (o ∷ line) (w .1) in
-          (record { turn = t; rule = q .0 } ∷ r .0, move {ss = r .0} (s .2) (w .0) (r .1))
+          let by-one = some-at (threadOf (ownerOf t) m .count) (by (s .0) (s .1)) (s .3) in
+          let w = both (applies (threadOf (ownerOf t) m) (by-one .0) q (s .0)) (onward (s .1) (by-one .0)) .0 (by-one .1) in
+          let r = finds-run more m t (ruleOf m t (by-one .0) .after .0) (stacksBy m t σ (s .1) (by-one .0)) (o ∷ line) (w .1) in
+          (record { turn = t; rule = by-one .0 } ∷ r .0, move {ss = r .0} (s .2) (w .0) (r .1))
     ]

@@ -21,43 +21,43 @@ abbrev pub Matches : Shape → List ℕ → Type 0
 Matches empty [] = Unit {0}
 Matches empty (x ∷ w) = ⊥
 Matches unknown w = Unit {0}
-Matches (top k s) [] = ⊥
-Matches (top k s) (x ∷ w) = (k ≡ x) × Matches s w
+Matches (top γ s) [] = ⊥
+Matches (top γ s) (x ∷ w) = (γ ≡ x) × Matches s w
 
 -- One shape says no less than another.
 abbrev pub under : Shape → Shape → Bool
 under s unknown = true
 under empty empty = true
 under unknown empty = false
-under (top k s) empty = false
+under (top γ s) empty = false
 under empty (top l t) = false
 under unknown (top l t) = false
-under (top k s) (top l t) = eqb k l && under s t
+under (top γ s) (top l t) = eqb γ l && under s t
 
 pub under-matches : (s t : Shape) (w : List ℕ) → T (under s t) → Matches s w → Matches t w
 under-matches s unknown w u o = tt
 under-matches empty empty w u o = o
 under-matches unknown empty w u o = absurd u
-under-matches (top k s) empty w u o = absurd u
+under-matches (top γ s) empty w u o = absurd u
 under-matches empty (top l t) w u o = absurd u
 under-matches unknown (top l t) w u o = absurd u
-under-matches (top k s) (top l t) [] u o = absurd o
-under-matches (top k s) (top l t) (x ∷ w) u o =
-    let h = both (eqb k l) (under s t) .0 u in (sym (equal k l .0 (h .0)) ∙ o .0, under-matches s t w (h .1) (o .1))
+under-matches (top γ s) (top l t) [] u o = absurd o
+under-matches (top γ s) (top l t) (x ∷ w) u o =
+    let h = both (eqb γ l) (under s t) .0 u in (sym (equal γ l .0 (h .0)) ∙ o .0, under-matches s t w (h .1) (o .1))
 
 -- So many symbols are kept, and what lies below them is forgotten.
 abbrev pub cut : ℕ → Shape → Shape
 cut n empty = empty
 cut n unknown = unknown
-cut zero (top k s) = unknown
-cut (suc n) (top k s) = top k (cut n s)
+cut zero (top γ s) = unknown
+cut (suc n) (top γ s) = top γ (cut n s)
 
 cut-matches : (n : ℕ) (s : Shape) (w : List ℕ) → Matches s w → Matches (cut n s) w
 cut-matches n empty w o = o
 cut-matches n unknown w o = tt
-cut-matches zero (top k s) w o = tt
-cut-matches (suc n) (top k s) [] o = o
-cut-matches (suc n) (top k s) (x ∷ w) o = (o .0, cut-matches n s w (o .1))
+cut-matches zero (top γ s) w o = tt
+cut-matches (suc n) (top γ s) [] o = o
+cut-matches (suc n) (top γ s) (x ∷ w) o = (o .0, cut-matches n s w (o .1))
 
 -- The right side of a rule comes on a stack without its top.
 abbrev pub laid : Right → Shape → Shape
@@ -74,18 +74,18 @@ laid-matches (Push a b) s w o = (refl, (refl, o))
 abbrev pub lay : Right → Shape → Shape
 lay x s = cut 1 (laid x s)
 
--- The shapes to which a rule for symbol k may lead: none where the top is known to be another, or there is no top.
+-- The shapes to which a rule for symbol γ may lead: none where the top is known to be another, or there is no top.
 abbrev pub fired : ℕ → Right → Shape → List Shape
-fired k x empty = []
-fired k x unknown = lay x unknown ∷ []
-fired k x (top l s) = cond (eqb k l) (lay x s ∷ []) []
+fired γ x empty = []
+fired γ x unknown = lay x unknown ∷ []
+fired γ x (top l s) = cond (eqb γ l) (lay x s ∷ []) []
 
--- Where k is the top, what the rule makes of the stack matches one of them.
-pub fired-matches : (f : Shape → Bool) (k : ℕ) (x : Right) (s : Shape) (w : List ℕ) → Matches s (k ∷ w)
-    → T (all f (fired k x s)) → (d : Shape) × T (f d) × Matches d (put x w)
-fired-matches f k x empty w o t = absurd o
-fired-matches f k x unknown w o t =
+-- Where γ is the top, what the rule makes of the stack matches one of them.
+pub fired-matches : (f : Shape → Bool) (γ : ℕ) (x : Right) (s : Shape) (w : List ℕ) → Matches s (γ ∷ w)
+    → T (all f (fired γ x s)) → (d : Shape) × T (f d) × Matches d (put x w)
+fired-matches f γ x empty w o t = absurd o
+fired-matches f γ x unknown w o t =
     (lay x unknown, both (f (lay x unknown)) true .0 t .0, cut-matches 1 (laid x unknown) (put x w) (laid-matches x unknown w tt))
-fired-matches f k x (top l s) w o t =
-    let u : T (f (lay x s) && true) = rw (passed (eqb k l) (equal k l .1 (sym (o .0)))) at t in
+fired-matches f γ x (top l s) w o t =
+    let u : T (f (lay x s) && true) = rw (passed (eqb γ l) (equal γ l .1 (sym (o .0)))) at t in
     (lay x s, both (f (lay x s)) true .0 u .0, cut-matches 1 (laid x s) (put x w) (laid-matches x s w (o .1)))

@@ -61,8 +61,8 @@ drawn m set store =
 
 -- A test that chooses between a thing's proof and its refutation decides it.
 decided : (b x y : Bool) {X : Type 0} → T (cond b x y) → (T x → X) → (T y → X → ⊥) → T b ↔ X
-decided true x y t f g = (λ h. f t, λ h. tt)
-decided false x y t f g = (λ h. absurd h, λ h. g t h)
+decided true x y t proof refutation = (λ h. proof t, λ h. tt)
+decided false x y t proof refutation = (λ h. absurd h, λ h. refutation t h)
 
 -- A bit past the last line does not stand.
 spared : (count : ℕ) (b : Bool) (p : ℕ) → count ≤ p → T (ltb p count || not b) → b ≡ false

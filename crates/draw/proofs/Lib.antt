@@ -1,5 +1,5 @@
+pub mod Bits
 pub mod Full
-pub mod Marked
 pub mod Marks
 pub mod Pack
 pub mod Places

@@ -16,7 +16,7 @@ use Rattle.model.proofs.Positions.{position-below}
 use Rattle.costs.specs.Cost.{BothCosts}
 use Rattle.costs.proofs.Front.{Front, front-start, front-next}
 use Rattle.draw.specs.Marks.{drawnAt, Packs}
-use Rattle.draw.proofs.Marked.{spare-place, drawn-follows}
+use Rattle.draw.proofs.Bits.{spare-place, drawn-follows}
 use Rattle.draw.proofs.Marks.{marked-full}
 use Rattle.draw.proofs.Places.{line-at-position}
 

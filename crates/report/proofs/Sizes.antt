@@ -17,7 +17,7 @@ use Rattle.model.specs.declared.ThreadId.the-variants.{A, B}
 use Rattle.model.proofs.Inside.{applies-iff}
 use Rattle.model.proofs.Results.{through}
 use Rattle.model.proofs.Steps.{stepped}
-use Rattle.report.specs.Prints.{longest}
+use Rattle.report.specs.Prints.{longestText}
 use Rattle.report.specs.Text.{line, stepLine, stepLines, countLine, foundWord}
 use Rattle.report.proofs.Numbers.{digits-1, digits-2, digits-4, length-line}
 
@@ -46,8 +46,8 @@ walk-short {m} f (s ∷ ss) c e =
     simp length-append (omega arith)
 
 -- The whole text of a schedule.
-pub found-short : {m : Model} {ss : List Step} {n g : ℕ} → Fits m → Leads m ss g → length ss ≡ n → n ≤ 4095
-    → length (line foundWord n ++ stepLines ss) ≤ longest
+pub found-short : {m : Model} {ss : List Step} {n q : ℕ} → Fits m → Leads m ss q → length ss ≡ n → n ≤ 4095
+    → length (line foundWord n ++ stepLines ss) ≤ longestText
 found-short {m} {ss} {n} f l e h =
     let steps = walk-short f ss _ (l .walked) in
     let head = digits-4 n (omega arith) in

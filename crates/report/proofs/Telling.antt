@@ -23,7 +23,7 @@ use Rattle.record.specs.declared.Reading.{Reading}
 use Rattle.record.specs.Held.{readingOf}
 use Rattle.record.specs.Reader.{Read}
 use Rattle.judge.specs.Answer.{refusalOf}
-use Rattle.report.specs.Prints.{Told, TextFor, longest}
+use Rattle.report.specs.Prints.{Told, TextFor, longestText}
 use Rattle.report.specs.Table.{standing, Fills}
 use Rattle.report.specs.Text.{line, refusedWord, foundWord, clearLine, longLine, stepLines, countLines}
 use Rattle.report.proofs.Numbers.{digits-4, length-line}
@@ -62,7 +62,7 @@ tells-clear {m} {table = table} j t =
 
 -- There is room for the text of the schedule.
 pub found-room : {m : Model} {n : ℕ} {old new : List ℕ} → Valid m → n ≤ 4095 → (s : Stored (Reaches m) n 0 old new) → 2 * n ≤ length old
-    → length (line foundWord n ++ stepLines (stepsOf (take (2 * n) new))) ≤ longest
+    → length (line foundWord n ++ stepLines (stepsOf (take (2 * n) new))) ≤ longestText
 found-room {m} v h s l = rw (stored-steps s l) (found-short (valid-fits m .0 v) (s .run) (s .count) h)
 
 -- The line of a refusal is short.

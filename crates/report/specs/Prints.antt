@@ -56,10 +56,10 @@ pub record Begins (Kind : List ℕ → Type 0) (r : ℕ) (old new : List ℕ) : 
   pub stored : new ≡ text ++ drop r old
 
 -- The longest text has so many bytes: `found 4095` and 4,095 lines of seven bytes.
-abbrev pub longest : ℕ
-longest = 28676
+abbrev pub longestText : ℕ
+longestText = 28676
 
 -- What the call answers and leaves in the store: the text where there is room for the longest; else 0, and what it held.
 pub data Reports (bytes : List ℕ) (r : ℕ) (old new : List ℕ) : Type 0 where
-  text : longest ≤ length old → Begins (Prints bytes) r old new → Reports bytes r old new
-  short : length old < longest → r ≡ 0 → new ≡ old → Reports bytes r old new
+  text : longestText ≤ length old → Begins (Prints bytes) r old new → Reports bytes r old new
+  short : length old < longestText → r ≡ 0 → new ≡ old → Reports bytes r old new

@@ -2,7 +2,7 @@
 ghost use Prim.Native.Nat.{_≤_};
 ghost use lib.ListN.{length};
 ghost use Rattle.model.specs.Valid.{Valid};
-ghost use Rattle.report.specs.Prints.{Told, Prints, Begins, longest, Reports};
+ghost use Rattle.report.specs.Prints.{Told, Prints, Begins, longestText, Reports};
 use judge::Judgement;
 use model::Model;
 use record::Answer;
@@ -11,7 +11,7 @@ mod lines;
 mod text;
 
 // The bytes of the longest text.
-const LONGEST: usize = 28676;
+const LONGEST_TEXT: usize = 28676;
 
 // Puts the text for the bytes of a record at the front of a store, and answers how many bytes it has; 0, with the store as it was,
 // where the store is shorter than the longest text.
@@ -19,7 +19,7 @@ pub fn report(bytes: &[u8], store: &mut [u8]) -> usize
     ensures text { λ r. ⌜ Reports (now (bytes .entry)) r (now (store .entry)) (now (store .exit)) ⌝ }
     ensures within { λ r. ⌜ r ≤ length (now (store .exit)) ⌝ }
 {
-    if store.len() < LONGEST {
+    if store.len() < LONGEST_TEXT {
         return 0;
     }
     put_report(bytes, store)
@@ -27,7 +27,7 @@ pub fn report(bytes: &[u8], store: &mut [u8]) -> usize
 
 // The same into a store that has room.
 fn put_report(bytes: &[u8], store: &mut [u8]) -> usize
-    requires { ⌜ longest ≤ length (now store) ⌝ }
+    requires { ⌜ longestText ≤ length (now store) ⌝ }
     ensures { λ r. ⌜ Begins (Prints (now (bytes .entry))) r (now (store .entry)) (now (store .exit)) ⌝ }
 {
     let reading = record::read(bytes);
@@ -40,7 +40,7 @@ fn put_report(bytes: &[u8], store: &mut [u8]) -> usize
 
 // The text of the verdict on a model.
 fn judged(m: Model, store: &mut [u8]) -> usize
-    requires { ⌜ Valid m ⌝ ∗ ⌜ longest ≤ length (now store) ⌝ }
+    requires { ⌜ Valid m ⌝ ∗ ⌜ longestText ≤ length (now store) ⌝ }
     ensures { λ r. ⌜ Begins (Told m) r (now (store .entry)) (now (store .exit)) ⌝ }
 {
     let mut table = [0u8; 683];

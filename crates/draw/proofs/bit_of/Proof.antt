@@ -1,7 +1,7 @@
 -- `bit_of` meets its contract: each test of the code decides a part of the mark.
 use native.Mathlib.Omega.{arith}
 use borrow.Author.Needs.{needs}
-use Rattle.draw.proofs.Marked.{bit-spare, bit-clear, bit-set}
+use Rattle.draw.proofs.Bits.{bit-spare, bit-clear, bit-set}
 use Rattle.draw.proofs.bit_of.Statement.{statement}
 use Rattle.draw.proofs.bit_of.Tie as tie
 

@@ -1,4 +1,4 @@
--- The marks of places, from the tests that decide them.
+-- The bit of a place, from the tests that decide it: each test is a part of the mark.
 use mathlib.Core.Bool.{Bool, true, false, _&&_}
 use mathlib.Core.Logic.{_↔_}
 use mathlib.Core.List.{List}
@@ -15,9 +15,9 @@ use Rattle.draw.specs.Full.{fullAt}
 use Rattle.draw.specs.Marks.{drawnAt}
 
 -- A test that does not pass has the bit 0.
-unset : (m : Bool) → (T m → ⊥) → 0 ≡ oneIf m
-unset true f = absurd (f tt)
-unset false f = refl
+unset : (test : Bool) → (T test → ⊥) → 0 ≡ oneIf test
+unset true h = absurd (h tt)
+unset false h = refl
 
 module _ (g k : ℕ) (a b : List ℕ) (p : ℕ) where
   -- Both threads can follow the full line of place p.
@@ -58,4 +58,4 @@ module _ (g k : ℕ) (a b : List ℕ) (p : ℕ) where
         unset (drawnAt g k a b p) (λ t. n (rw f (drawn-follows s .0 t)))
 
     pub bit-set : getD a v 0 ≤ 4096 → getD b v 0 ≤ 4096 → 1 ≡ oneIf (drawnAt g k a b p)
-    bit-set l m = let s : p < bits g k = omega arith in rw (both-follow s (rw (← f) (l, m)))
+    bit-set x y = let s : p < bits g k = omega arith in rw (both-follow s (rw (← f) (x, y)))
