@@ -11,9 +11,10 @@ use lib.ListN.{getD, List·getD-eq-default}
 use lib.Pow.{pow-add}
 use Rattle.model.specs.Lines.{digits}
 use Rattle.model.proofs.Positions.{length-digits}
+use Rattle.costs.specs.Lanes.{fullLines}
 
 -- The powers of at most 4 up to the sixth.
-pub power-small : {g n : ℕ} → g ≤ 4 → n ≤ 6 → g ^ n ≤ 4096
+pub power-small : {g n : ℕ} → g ≤ 4 → n ≤ 6 → g ^ n ≤ fullLines
 power-small {g} {n} h l = le-trans (pow-le-pow-left h n) (pow-le-pow-right {n = 4} (omega arith) l)
 
 -- What stays below a power stays so below a lesser one.
@@ -40,13 +41,13 @@ pub beyond : (g n v j : ℕ) → n ≤ j → getD (digits g n v) j 0 ≡ 0
 beyond g n v j h = List·getD-eq-default (digits g n v) 0 (rw length-digits h)
 
 -- One factor more.
-pub raised : {g i k r : ℕ} → r ≡ g ^ i → i < k → g ≤ 4 → k ≤ 6 → (r * g ≡ g ^ (i + 1)) × (r * g ≤ 4096)
+pub raised : {g i k r : ℕ} → r ≡ g ^ i → i < k → g ≤ 4 → k ≤ 6 → (r * g ≡ g ^ (i + 1)) × (r * g ≤ fullLines)
 raised {g} {i} {k} {r} e h four six =
     let s : r * g ≡ g ^ (i + 1) = rw (add-one, pow-suc, e) in
     (s, rw s (power-small {n = i + 1} four (omega arith)))
 
 -- A power that divides, and the next one.
-pub room : (k : ℕ) {g p : ℕ} → 1 ≤ g → g ≤ 4 → p ≡ g ^ k → p ≤ 4096 → (0 < p) × (0 < p * g) × (p * g ≤ 16384)
+pub room : (k : ℕ) {g p : ℕ} → 1 ≤ g → g ≤ 4 → p ≡ g ^ k → p ≤ fullLines → (0 < p) × (0 < p * g) × (p * g ≤ 16384)
 room k {g} {p} one four e h =
     let pos : 0 < p = rw e (one-le-pow k g one) in
     (pos, mul-pos pos one, mul-le-mul h four)

@@ -8,38 +8,39 @@ use native.Mathlib.Omega.{arith}
 use lib.ListN.{getD}
 use borrow.Author.Tests.{le-leb}
 use Rattle.model.specs.declared.ThreadId.{ThreadId}
-use Rattle.summary.specs.Control.{Control, TurnEnd, dest, placeOf, entry}
+use Rattle.summary.specs.Control.{Control, TurnEnd, dest, cellOf, entry}
 use Rattle.summary.specs.Edges.{cell, bestOf}
 use Rattle.summary.specs.Stretch.{End, pop, stay, endOf}
 use Rattle.costs.specs.Cost.{control, overStates, overTurns}
 use Rattle.costs.specs.Ends.{turnOf, endsOf}
-use Rattle.costs.specs.Lanes.{placeAt, endLane, LaneTo}
+use Rattle.costs.specs.Lanes.{cellAt, endLane, LaneTo}
+use Rattle.summary.specs.Table.{cap}
 
 -- The cell of a stretch, by the lane.
-pub place-at : (ends : ℕ → TurnEnd) (k p q g γ d l : ℕ) → q ≡ p + k → k ≤ 2 → LaneTo ends q l
-    → placeOf ends k (control p g) γ d ≡ placeAt k g γ d l
-place-at ends zero p q g γ d l e two h = refl
-place-at ends (suc zero) p q g γ d l e two h = let s : q ≡ suc p = omega arith in rw (rw s at h)
-place-at ends (suc (suc zero)) p q g γ d l e two h = let s : q ≡ suc (suc p) = omega arith in rw (rw s at h)
-place-at ends (suc (suc (suc k))) p q g γ d l e two h = absurd (omega arith)
+pub cell-at : (ends : ℕ → TurnEnd) (k p q g γ d l : ℕ) → q ≡ p + k → k ≤ 2 → LaneTo ends q l
+    → cellOf ends k (control p g) γ d ≡ cellAt k g γ d l
+cell-at ends zero p q g γ d l e two h = refl
+cell-at ends (suc zero) p q g γ d l e two h = let s : q ≡ suc p = omega arith in rw (rw s at h)
+cell-at ends (suc (suc zero)) p q g γ d l e two h = let s : q ≡ suc (suc p) = omega arith in rw (rw s at h)
+cell-at ends (suc (suc (suc k))) p q g γ d l e two h = absurd (omega arith)
 
 module _ (ends : ℕ → TurnEnd) (tab : List ℕ) where
   -- The entry of a stretch that ends in the same turn or a later one.
   pub entry-at : (p g γ l : ℕ) (d : End Control) → p ≤ endOf d .passed → endOf d .passed ≤ 2 → LaneTo ends (endOf d .passed) l
-      → entry ends tab (control p g) γ d ≡ cell tab (placeAt (endOf d .passed - p) g γ (dest d) l)
+      → entry ends tab (control p g) γ d ≡ cell tab (cellAt (endOf d .passed - p) g γ (dest d) l)
   entry-at p g γ l d h two e =
-      rw (le-leb p (endOf d .passed) h, place-at ends (endOf d .passed - p) p (endOf d .passed) g γ (dest d) l (omega arith) (omega arith) e)
+      rw (le-leb p (endOf d .passed) h, cell-at ends (endOf d .passed - p) p (endOf d .passed) g γ (dest d) l (omega arith) (omega arith) e)
 
   module _ (n from γ to last : ℕ) (two : n ≤ 2) (lastly : LaneTo ends n last) where
     -- The runs whose symbol never goes.
-    pub none-gone : (G x : ℕ) → x ≡ cell tab (placeAt n from γ (4 + to) last)
+    pub none-gone : (G x : ℕ) → x ≡ cell tab (cellAt n from γ (4 + to) last)
         → x ≡ overTurns ends tab (control 0 from) γ (control n to) G 0
     unfolding overTurns
     none-gone G x e = rw (entry-at 0 from γ last (stay (control n to)) (omega arith) two lastly, sub-zero) e
 
     -- One state more.
     pub one-more : (j before s old best x y new : ℕ) → j ≤ n → LaneTo ends j before
-        → x ≡ cell tab (placeAt j from γ s before) → y ≡ cell tab (placeAt (n - j) s 16 (4 + to) last)
+        → x ≡ cell tab (cellAt j from γ s before) → y ≡ cell tab (cellAt (n - j) s 16 (4 + to) last)
         → new ≡ bestOf 0 x y best → best ≡ overStates ends tab (control 0 from) γ (control n to) j s old
         → new ≡ overStates ends tab (control 0 from) γ (control n to) j (s + 1) old
     unfolding overStates
@@ -65,9 +66,9 @@ lane-two ends (suc (suc zero)) l e two h = h
 lane-two ends (suc (suc (suc j))) l e two h = absurd (omega arith)
 
 -- A first part that is reached is as good as a weight.
-pub best-first : (x y old : ℕ) → x ≤ 4096 → bestOf x 0 y old ≡ bestOf 0 x y old
+pub best-first : (x y old : ℕ) → x ≤ cap → bestOf x 0 y old ≡ bestOf 0 x y old
 unfolding bestOf
-best-first x y old h = rw (le-leb x 4096 h, add-zero, zero-add)
+best-first x y old h = rw (le-leb x cap h, add-zero, zero-add)
 
 -- One number of turn ends more.
 pub turn-more : (ends : ℕ → TurnEnd) (tab : List ℕ) (c d : Control) (γ G j best new : ℕ)

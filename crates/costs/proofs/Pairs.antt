@@ -17,7 +17,7 @@ use Rattle.model.specs.Fits.{ThreadFits}
 use Rattle.summary.specs.Control.{Control, TurnEnd, Moves, Switches, entry, InTable, Inside, Summed}
 use Rattle.summary.specs.Edges.{bestOf}
 use Rattle.summary.specs.Stretch.{End, pop, stay, Path, Stretch}
-use Rattle.summary.specs.Table.{capped, Least, Exact}
+use Rattle.summary.specs.Table.{cap, capped, Least, Exact}
 use Rattle.summary.proofs.Best.{exact-closed}
 use Rattle.summary.proofs.Floors.{floored, unfloored}
 use Rattle.summary.proofs.Overs.{Over, within, gone, overs, pops, stays}
@@ -28,16 +28,16 @@ use Rattle.costs.specs.Cost.{control, through, overStates, overTurns, pa
 use Rattle.costs.specs.Ends.{turnOf}
 
 -- A count that is reached and at most m is so after a candidate more, and after one that is.
-lower : (x y old m : ℕ) → (old ≤ 4096) × (old ≤ m) → (bestOf 0 x y old ≤ 4096) × (bestOf 0 x y old ≤ m)
+lower : (x y old m : ℕ) → (old ≤ cap) × (old ≤ m) → (bestOf 0 x y old ≤ cap) × (bestOf 0 x y old ≤ m)
 lower x y old m h = let b = better 0 x y old in (omega (arith, b .low), omega (arith, b .low))
 
-hits : (x y old l m : ℕ) → (x ≤ 4096) × (x + l ≤ m) → (y ≤ 4096) × (y + 0 ≤ l)
-    → (bestOf 0 x y old ≤ 4096) × (bestOf 0 x y old ≤ m)
+hits : (x y old l m : ℕ) → (x ≤ cap) × (x + l ≤ m) → (y ≤ cap) × (y + 0 ≤ l)
+    → (bestOf 0 x y old ≤ cap) × (bestOf 0 x y old ≤ m)
 hits x y old l m h k = let b = better 0 x y old .most (h .0) (k .0) in (b .0, omega (arith, b .1))
 
 -- A count that some run with one symbol has, if it is reached.
 abbrev Made : {C S : Type 0} (Move : C → ℕ → S → Right → C → Type 0) (Switch : C → C → Type 0) → C → ℕ → C → ℕ → Type 0
-Made {S = S} Move Switch c γ d v = v ≤ 4096 → (ss : List S) × Path Move Switch c (γ ∷ []) ss d × (capped (length ss) ≡ v)
+Made {S = S} Move Switch c γ d v = v ≤ cap → (ss : List S) × Path Move Switch c (γ ∷ []) ss d × (capped (length ss) ≡ v)
 
 module _ {C S : Type 0} {Move : C → ℕ → S → Right → C → Type 0} {Switch : C → C → Type 0} (φ : ℕ)
     (idle : (c d : C) (s : S) (x : Right) → Move c φ s x d → ⊥) where
@@ -56,7 +56,7 @@ module _ {C S : Type 0} {Move : C → ℕ → S → Right → C → Type 0} {Swi
       → Made Move Switch c γ d old → Made Move Switch c γ d (bestOf 0 x y old)
   joined {c} {u} {d} {γ} {x} {y} {old} f g r = which (better 0 x y old .which)
     where
-      which : (bestOf 0 x y old ≡ old) ⊎ ((x ≤ 4096) × (y ≤ 4096) × (bestOf 0 x y old ≡ min (0 + x + y) 4096))
+      which : (bestOf 0 x y old ≡ old) ⊎ ((x ≤ cap) × (y ≤ cap) × (bestOf 0 x y old ≡ min (0 + x + y) cap))
           → Made Move Switch c γ d (bestOf 0 x y old)
       which (inl e) h = rw e (r (rw e at h))
       which (inr e) h =
@@ -137,20 +137,20 @@ module _ {t : Thread} {G n : ℕ} {ends : ℕ → TurnEnd} {tab : List ℕ} (fit
         least = λ {ss} r. least (overs _ _ (floored _ _ 16 idle r));
       }
     where
-      lowers : (ss : List Step) (j s old : ℕ) → j ≤ n → s < G → (old ≤ 4096) × (old ≤ length ss)
-          → (through ends tab c γ d (control j s) old ≤ 4096) × (through ends tab c γ d (control j s) old ≤ length ss)
+      lowers : (ss : List Step) (j s old : ℕ) → j ≤ n → s < G → (old ≤ cap) × (old ≤ length ss)
+          → (through ends tab c γ d (control j s) old ≤ cap) × (through ends tab c γ d (control j s) old ≤ length ss)
       lowers ss j s old i l = lower _ _ old (length ss)
 
       least : {ss : List Step} → Over (Moves t turnOf) (Switches ends n) c (γ ∷ 16 ∷ []) ss d
-          → (pairCost ends tab G n c γ d ≤ 4096) × (pairCost ends tab G n c γ d ≤ length ss)
+          → (pairCost ends tab G n c γ d ≤ cap) × (pairCost ends tab G n c γ d ≤ length ss)
       least {ss} (within r) =
           let e = bound p (omega arith) r in
-          turns-made ends tab c γ d G n (λ v. (v ≤ 4096) × (v ≤ length ss)) (lowers ss) (e .reached, omega (arith, e .most)) (suc n)
+          turns-made ends tab c γ d G n (λ v. (v ≤ cap) × (v ≤ length ss)) (lowers ss) (e .reached, omega (arith, e .most)) (suc n)
           (le-refl (suc n))
       least {ss} (gone {q = u} {mid = mid} r (within f)) =
           let x = bound p (omega arith) r in
-          let y = bound (x .place) (omega arith) f in
-          let i = x .place in
-          turns-hit ends tab c γ d G n (λ v. (v ≤ 4096) × (v ≤ length ss)) (lowers ss) (u .passed) (u .shared) (i .0) (i .1)
+          let y = bound (x .inside) (omega arith) f in
+          let i = x .inside in
+          turns-hit ends tab c γ d G n (λ v. (v ≤ cap) × (v ≤ length ss)) (lowers ss) (u .passed) (u .shared) (i .0) (i .1)
           (λ old. hits _ _ old (length mid) (length ss) (x .reached, x .most) (y .reached, y .most)) (suc n) (omega (arith, i .0)) (le-refl (suc n))
       least (gone r (gone f o)) = absurd (never 16 idle f)

@@ -13,13 +13,13 @@ turnOf B j = 2 * j + 1
 
 -- The turn end after a thread's own turn j: the line has where that turn ends, and where the other's turn after it does.
 abbrev pub endsOf : ThreadId → List ℕ → ℕ → TurnEnd
-endsOf i line j = record { leave = getD line (turnOf i j) 0; enter = getD line (suc (turnOf i j)) 0 }
+endsOf id line j = record { leave = getD line (turnOf id j) 0; enter = getD line (suc (turnOf id j)) 0 }
 
--- The state in which a thread's first turn starts, where the run starts in g.
+-- The state in which a thread's first turn starts, where the run starts in q.
 abbrev pub firstState : ThreadId → ℕ → List ℕ → ℕ
-firstState A g line = g
-firstState B g line = getD line 0 0
+firstState A q line = q
+firstState B q line = getD line 0 0
 
 -- The state in which a thread's own turn n ends.
 abbrev pub lastState : ThreadId → ℕ → List ℕ → ℕ
-lastState i n line = getD line (turnOf i n) 0
+lastState id n line = getD line (turnOf id n) 0

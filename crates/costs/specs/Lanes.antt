@@ -12,11 +12,15 @@ use Rattle.summary.specs.Control.{TurnEnd}
 use Rattle.costs.specs.Cost.{lineCost, LeastAt}
 use Rattle.costs.specs.Ends.{endsOf}
 
+-- So many full lines there are at most: four states at the ends of six turns.
+abbrev pub fullLines : ℕ
+fullLines = 4096
+
 -- The cell of a stretch with so many turn ends inside, where l is the lane of the last of them.
-abbrev pub placeAt : ℕ → ℕ → ℕ → ℕ → ℕ → ℕ
-placeAt zero g γ d l = plain g γ d
-placeAt (suc zero) g γ d l = lane first g γ d + l
-placeAt (suc (suc k)) g γ d l = lane second g γ d + l
+abbrev pub cellAt : ℕ → ℕ → ℕ → ℕ → ℕ → ℕ
+cellAt zero q γ d l = plain q γ d
+cellAt (suc zero) q γ d l = lane first q γ d + l
+cellAt (suc (suc more)) q γ d l = lane second q γ d + l
 
 -- The lane of turn end j.
 abbrev pub endLane : (ℕ → TurnEnd) → ℕ → ℕ
@@ -29,16 +33,16 @@ LaneTo ends (suc j) l = l ≡ endLane ends j
 
 -- The lane of turn end j of the line of `size` states whose value is v.
 abbrev pub lineLane : ThreadId → ℕ → ℕ → ℕ → ℕ → ℕ
-lineLane i G size v j = endLane (endsOf i (digits G size v)) j
+lineLane id g size v j = endLane (endsOf id (digits g size v)) j
 
 -- A list of the lanes of the first turn ends of all full lines of three rounds.
-pub record FirstLanes (i : ThreadId) (G : ℕ) (lanes : List ℕ) : Type 0 where
-  pub lane : (v : ℕ) → v < G ^ 6 → getD lanes v 0 ≡ lineLane i G 6 v 0
+pub record FirstLanes (id : ThreadId) (g : ℕ) (lanes : List ℕ) : Type 0 where
+  pub lane : (v : ℕ) → v < g ^ 6 → getD lanes v 0 ≡ lineLane id g 6 v 0
 
 -- The cost of the full line whose value is v, read off a table.
 abbrev pub costOf : ThreadId → List ℕ → ℕ → ℕ → ℕ → ℕ → ℕ → ℕ
-costOf i tab G n g γ v = lineCost i tab G n g γ (digits G (2 * suc n) v)
+costOf id table g n q γ v = lineCost id table g n q γ (digits g (2 * suc n) v)
 
 -- With two turn ends: the costs of the lines whose first turn end has a lane below l.
 abbrev pub CostsTo : Thread → ThreadId → ℕ → ℕ → ℕ → List ℕ → Type 0
-CostsTo t i G g l costs = (v : ℕ) → v < G ^ 6 → lineLane i G 6 v 0 < l → LeastAt t i G 2 g v (getD costs v 0)
+CostsTo t id g q l costs = (v : ℕ) → v < g ^ 6 → lineLane id g 6 v 0 < l → LeastAt t id g 2 q v (getD costs v 0)

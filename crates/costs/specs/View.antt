@@ -10,16 +10,16 @@ use Rattle.model.specs.declared.ThreadId.{ThreadId}
 use Rattle.model.specs.Walk.{other, ownerOf, threadOf, Step}
 
 -- From a turn, a shared state and the thread's stack on: the line, and the thread's own steps.
-pub data View (m : Model) (i : ThreadId) : ℕ → ℕ → List ℕ → List ℕ → List Step → Type 0 where
+pub data View (m : Model) (id : ThreadId) : ℕ → ℕ → List ℕ → List ℕ → List Step → Type 0 where
   -- the run stops after a turn
-  stop : {t g : ℕ} {w : List ℕ} → View m i t g w [] []
+  stop : {t q : ℕ} {w : List ℕ} → View m id t q w [] []
   -- a turn of the other thread, which ends where the line says
-  skip : {t g o : ℕ} {w line : List ℕ} {ss : List Step} → ownerOf t ≡ other i → View m i (suc t) o w line ss
-      → View m i t g w (o ∷ line) ss
+  skip : {t q o : ℕ} {w line : List ℕ} {ss : List Step} → ownerOf t ≡ other id → View m id (suc t) o w line ss
+      → View m id t q w (o ∷ line) ss
   -- the thread's own turn ends here
-  end : {t g : ℕ} {w line : List ℕ} {ss : List Step} → ownerOf t ≡ i → View m i (suc t) g w line ss
-      → View m i t g w (g ∷ line) ss
+  end : {t q : ℕ} {w line : List ℕ} {ss : List Step} → ownerOf t ≡ id → View m id (suc t) q w line ss
+      → View m id t q w (q ∷ line) ss
   -- a step in the thread's own turn
-  move : {t g r top o : ℕ} {w line : List ℕ} {ss : List Step} → ownerOf t ≡ i → T (applies (threadOf i m) r g top)
-      → View m i t (ruleAt (threadOf i m) r .after .0) (put (ruleAt (threadOf i m) r .right) w) (o ∷ line) ss
-      → View m i t g (top ∷ w) (o ∷ line) (record { turn = t; rule = r } ∷ ss)
+  move : {t q r γ o : ℕ} {w line : List ℕ} {ss : List Step} → ownerOf t ≡ id → T (applies (threadOf id m) r q γ)
+      → View m id t (ruleAt (threadOf id m) r .after .0) (put (ruleAt (threadOf id m) r .right) w) (o ∷ line) ss
+      → View m id t q (γ ∷ w) (o ∷ line) (record { turn = t; rule = r } ∷ ss)

@@ -7,7 +7,7 @@ ghost use lib.ListN.{length, getD};
 ghost use Rattle.model.specs.Fits.{Fits, ThreadFits};
 ghost use Rattle.summary.specs.Cells.{size, second, First, Solved};
 ghost use Rattle.costs.specs.Cost.{Costs, BothCosts};
-ghost use Rattle.costs.specs.Lanes.{lineLane, costOf, CostsTo, FirstLanes};
+ghost use Rattle.costs.specs.Lanes.{fullLines, lineLane, costOf, CostsTo, FirstLanes};
 
 pub mod line;
 pub mod parts;
@@ -18,26 +18,30 @@ use crate::parts::power;
 use model::Model;
 use model::Thread;
 use model::ThreadId;
+use summary::cells::SIZE;
 use summary::turns::close_first;
 use summary::turns::close_plain;
 use summary::turns::close_second;
 
+// So many full lines there are at most: four states at the ends of six turns.
+pub const LINES: usize = 4096;
+
 // The costs of all full lines of both threads of a model in range.
 pub fn both(m: Model, a: &mut [u64], b: &mut [u64])
-    requires { ⌜ Fits m ⌝ ∗ ⌜ (length (now a) ≡ 4096) × (length (now b) ≡ 4096) ⌝ }
+    requires { ⌜ Fits m ⌝ ∗ ⌜ (length (now a) ≡ fullLines) × (length (now b) ≡ fullLines) ⌝ }
     ensures { λ _. ⌜ BothCosts m (now (a .exit)) (now (b .exit)) ⌝ }
 {
     let g = m.g as usize;
     let n = m.k as usize - 1;
     let start = m.start.0 as usize;
-    let mut table = [0u64; 17952];
+    let mut table = [0u64; SIZE];
     fill(&mut table, a, g, n, ThreadId::A, start, m.a);
     fill(&mut table, b, g, n, ThreadId::B, start, m.b);
 }
 
 // The costs of all full lines of a thread with n turn ends.
 fn fill(
-    t: &mut [u64],
+    table: &mut [u64],
     costs: &mut [u64],
     g: usize,
     n: usize,
@@ -46,27 +50,27 @@ fn fill(
     th: Thread,
 )
     requires { ⌜
-        (length (now t) ≡ size) × (length (now costs) ≡ 4096) × (1 ≤ g) × (g ≤ 4) × (n ≤ 2) × (start < g) × ThreadFits g th
+        (length (now table) ≡ size) × (length (now costs) ≡ fullLines) × (1 ≤ g) × (g ≤ 4) × (n ≤ 2) × (start < g) × ThreadFits g th
         ⌝ }
     ensures { λ r. ⌜ Costs th id g n start (now (costs .exit)) ⌝ }
 {
     let top = th.first.0 as usize;
-    close_plain(t, g, th);
+    close_plain(table, g, th);
     if n == 0 {
-        fill_all(t, costs, g, n, id, start, top);
+        fill_all(table, costs, g, n, id, start, top);
         return;
     }
-    close_first(t, g, th);
+    close_first(table, g, th);
     if n == 1 {
-        fill_all(t, costs, g, n, id, start, top);
+        fill_all(table, costs, g, n, id, start, top);
         return;
     }
-    fill_ends(t, costs, g, id, start, th);
+    fill_ends(table, costs, g, id, start, th);
 }
 
 // The costs of all full lines.
 fn fill_all(
-    t: &[u64],
+    table: &[u64],
     costs: &mut [u64],
     g: usize,
     n: usize,
@@ -75,41 +79,41 @@ fn fill_all(
     top: usize,
 )
     requires { ⌜
-        (length (now t) ≡ size) × (length (now costs) ≡ 4096) × (1 ≤ g) × (g ≤ 4) × (n ≤ 2) × (start < g) × (top < 17)
+        (length (now table) ≡ size) × (length (now costs) ≡ fullLines) × (1 ≤ g) × (g ≤ 4) × (n ≤ 2) × (start < g) × (top < 17)
         ⌝ }
     ensures { λ r. ⌜
         ((v : ℕ) → v < g ^ (2 * suc n)
-        → getD (now (costs .exit)) v 0 ≡ costOf id (now (t .entry)) g n start top v)
+        → getD (now (costs .exit)) v 0 ≡ costOf id (now (table .entry)) g n start top v)
         ⌝ }
 {
     let count = power(g, 2 * n + 2);
     let mut v = 0;
     while v < count {
-        costs[v] = line_cost(t, g, n, id, start, top, v);
+        costs[v] = line_cost(table, g, n, id, start, top, v);
         v += 1;
     }
 }
 
 // The costs of all full lines with two turn ends, one first turn end after the other.
-fn fill_ends(t: &mut [u64], costs: &mut [u64], g: usize, id: ThreadId, start: usize, th: Thread)
+fn fill_ends(table: &mut [u64], costs: &mut [u64], g: usize, id: ThreadId, start: usize, th: Thread)
     requires { ⌜
-        (length (now t) ≡ size) × (length (now costs) ≡ 4096) × (1 ≤ g) × (g ≤ 4) × (start < g) × ThreadFits g th
-        × Solved (First th g) second (now t)
+        (length (now table) ≡ size) × (length (now costs) ≡ fullLines) × (1 ≤ g) × (g ≤ 4) × (start < g) × ThreadFits g th
+        × Solved (First th g) second (now table)
         ⌝ }
     ensures { λ r. ⌜ Costs th id g 2 start (now (costs .exit)) ⌝ }
 {
-    let mut lanes = [0usize; 4096];
+    let mut lanes = [0usize; LINES];
     find_lanes(&mut lanes, g, id);
     let mut o = 0;
     while o < g {
-        fill_from(t, costs, &lanes, g, id, start, o, th);
+        fill_from(table, costs, &lanes, g, id, start, o, th);
         o += 1;
     }
 }
 
 // The lane of each full line's first turn end.
 fn find_lanes(lanes: &mut [usize], g: usize, id: ThreadId)
-    requires { ⌜ (length (now lanes) ≡ 4096) × (1 ≤ g) × (g ≤ 4) ⌝ }
+    requires { ⌜ (length (now lanes) ≡ fullLines) × (1 ≤ g) × (g ≤ 4) ⌝ }
     ensures { λ _. ⌜ FirstLanes id g (now (lanes .exit)) ⌝ }
 {
     let count = power(g, 6);
@@ -122,7 +126,7 @@ fn find_lanes(lanes: &mut [usize], g: usize, id: ThreadId)
 
 // The costs of the full lines whose first turn end is left at o.
 fn fill_from(
-    t: &mut [u64],
+    table: &mut [u64],
     costs: &mut [u64],
     lanes: &[usize],
     g: usize,
@@ -132,24 +136,24 @@ fn fill_from(
     th: Thread,
 )
     requires { ⌜
-        (length (now t) ≡ size) × (length (now costs) ≡ 4096) × (1 ≤ g) × (g ≤ 4) × (start < g) × (o < g) × ThreadFits g th
-        × Solved (First th g) second (now t) × CostsTo th id g start (o * 4) (now costs)
-        ⌝ ∗ ⌜ (length (now lanes) ≡ 4096) × FirstLanes id g (now lanes) ⌝ }
-    ensures solved { λ r. ⌜ Solved (First th g) second (now (t .exit)) ⌝ }
+        (length (now table) ≡ size) × (length (now costs) ≡ fullLines) × (1 ≤ g) × (g ≤ 4) × (start < g) × (o < g) × ThreadFits g th
+        × Solved (First th g) second (now table) × CostsTo th id g start (o * 4) (now costs)
+        ⌝ ∗ ⌜ (length (now lanes) ≡ fullLines) × FirstLanes id g (now lanes) ⌝ }
+    ensures solved { λ r. ⌜ Solved (First th g) second (now (table .exit)) ⌝ }
     ensures known { λ r. ⌜ CostsTo th id g start (o * 4 + 4) (now (costs .exit)) ⌝ }
 {
     let top = th.first.0 as usize;
     let mut i = 0;
     while i < g {
-        close_second(t, g, o, i, th);
-        fill_slice(t, costs, lanes, g, id, start, top, o * 4 + i);
+        close_second(table, g, o, i, th);
+        fill_slice(table, costs, lanes, g, id, start, top, o * 4 + i);
         i += 1;
     }
 }
 
 // The costs of the full lines whose first turn end has this lane.
 fn fill_slice(
-    t: &[u64],
+    table: &[u64],
     costs: &mut [u64],
     lanes: &[usize],
     g: usize,
@@ -159,26 +163,26 @@ fn fill_slice(
     lane: usize,
 )
     requires { ⌜
-        (length (now t) ≡ size) × (length (now costs) ≡ 4096) × (1 ≤ g) × (g ≤ 4) × (start < g) × (top < 17)
-        ⌝ ∗ ⌜ (length (now lanes) ≡ 4096) × FirstLanes id g (now lanes) ⌝ }
+        (length (now table) ≡ size) × (length (now costs) ≡ fullLines) × (1 ≤ g) × (g ≤ 4) × (start < g) × (top < 17)
+        ⌝ ∗ ⌜ (length (now lanes) ≡ fullLines) × FirstLanes id g (now lanes) ⌝ }
     ensures { λ r. ⌜
         ((v : ℕ) → v < g ^ 6
         → getD (now (costs .exit)) v 0
-        ≡ cond (eqb (lineLane id g 6 v 0) lane) (costOf id (now (t .entry)) g 2 start top v)
+        ≡ cond (eqb (lineLane id g 6 v 0) lane) (costOf id (now (table .entry)) g 2 start top v)
         (getD (now (costs .entry)) v 0))
         ⌝ }
 {
     let count = power(g, 6);
     let mut v = 0;
     while v < count {
-        costs[v] = slice_cost(t, lanes, g, id, start, top, lane, v, costs[v]);
+        costs[v] = slice_cost(table, lanes, g, id, start, top, lane, v, costs[v]);
         v += 1;
     }
 }
 
 // The cost of a full line with two turn ends where its first one has this lane, and else the old value.
 fn slice_cost(
-    t: &[u64],
+    table: &[u64],
     lanes: &[usize],
     g: usize,
     id: ThreadId,
@@ -189,14 +193,14 @@ fn slice_cost(
     old: u64,
 ) -> u64
     requires { ⌜
-        (length (now t) ≡ size) × (1 ≤ g) × (g ≤ 4) × (start < g) × (top < 17) × (v < g ^ 6)
+        (length (now table) ≡ size) × (1 ≤ g) × (g ≤ 4) × (start < g) × (top < 17) × (v < g ^ 6)
         ⌝ ∗ ⌜ (v < length (now lanes)) × FirstLanes id g (now lanes) ⌝ }
     ensures { λ r. ⌜
-        r ≡ cond (eqb (lineLane id g 6 v 0) lane) (costOf id (now (t .entry)) g 2 start top v) old
+        r ≡ cond (eqb (lineLane id g 6 v 0) lane) (costOf id (now (table .entry)) g 2 start top v) old
         ⌝ }
 {
     if lanes[v] == lane {
-        line_cost(t, g, 2, id, start, top, v)
+        line_cost(table, g, 2, id, start, top, v)
     } else {
         old
     }

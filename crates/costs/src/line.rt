@@ -4,10 +4,11 @@ use crate::parts::lane_of;
 use crate::parts::state_at;
 use crate::parts::turn_of;
 use model::ThreadId;
+use summary::CAP;
 use summary::cells::FIRST;
 use summary::cells::SECOND;
-use summary::cells::lane_place;
-use summary::cells::place;
+use summary::cells::lane_cell;
+use summary::cells::plain_cell;
 use summary::edges::better;
 ghost use mathlib.Core.Path.{_≡_};
 ghost use Prim.Native.Nat.{ℕ, suc, _*_, _^_, _≤_, _<_};
@@ -16,11 +17,11 @@ ghost use Rattle.summary.specs.Cells.{size};
 ghost use Rattle.summary.specs.Control.{TurnEnd};
 ghost use Rattle.summary.specs.Edges.{bestOf, cell};
 ghost use Rattle.costs.specs.Cost.{control, overStates, pairCost};
-ghost use Rattle.costs.specs.Lanes.{placeAt, endLane, LaneTo, costOf};
+ghost use Rattle.costs.specs.Lanes.{cellAt, endLane, LaneTo, costOf};
 
 // The cost of the full line whose value is v.
 pub fn line_cost(
-    t: &[u64],
+    table: &[u64],
     g: usize,
     n: usize,
     id: ThreadId,
@@ -29,22 +30,22 @@ pub fn line_cost(
     v: usize,
 ) -> u64
     requires { ⌜
-        (length (now t) ≡ size) × (1 ≤ g) × (g ≤ 4) × (n ≤ 2) × (start < g) × (top < 17) × (v < g ^ (2 * suc n))
+        (length (now table) ≡ size) × (1 ≤ g) × (g ≤ 4) × (n ≤ 2) × (start < g) × (top < 17) × (v < g ^ (2 * suc n))
         ⌝ }
-    ensures { λ r. ⌜ r ≡ costOf id (now (t .entry)) g n start top v ⌝ }
+    ensures { λ r. ⌜ r ≡ costOf id (now (table .entry)) g n start top v ⌝ }
 {
     let len = 2 * n + 2;
     let from = first_state(g, len, v, id, start);
     let to = state_at(g, len, v, turn_of(id, n));
     let a = lane_of(g, len, v, id, 0);
     let b = lane_of(g, len, v, id, 1);
-    pair_cost(t, g, n, from, top, to, a, b)
+    pair_cost(table, g, n, from, top, to, a, b)
 }
 
 // The cost of a thread that starts at a state with one symbol and ends n turn ends later at another; a and b are the lanes
 // of the turn ends.
 fn pair_cost(
-    t: &[u64],
+    table: &[u64],
     g: usize,
     n: usize,
     from: usize,
@@ -54,19 +55,19 @@ fn pair_cost(
     b: usize,
 ) -> u64
     requires { ⌜
-        (length (now t) ≡ size) × (g ≤ 4) × (n ≤ 2) × (from < 4) × (top < 17) × (to < 4) × (a < 16) × (b < 16)
+        (length (now table) ≡ size) × (g ≤ 4) × (n ≤ 2) × (from < 4) × (top < 17) × (to < 4) × (a < 16) × (b < 16)
         ⌝ }
     ensures { λ r. ⌜
         ((ends : ℕ → TurnEnd) → a ≡ endLane ends 0 → b ≡ endLane ends 1
-        → r ≡ pairCost ends (now (t .entry)) g n (control 0 from) top (control n to))
+        → r ≡ pairCost ends (now (table .entry)) g n (control 0 from) top (control n to))
         ⌝ }
 {
     let last = lane_to(n, a, b);
-    let mut best = entry_at(t, n, from, top, 4 + to, last);
+    let mut best = entry_at(table, n, from, top, 4 + to, last);
     let mut j = 0;
     while j <= n {
         let before = lane_to(j, a, b);
-        best = over_states(t, g, n, j, from, top, to, before, last, best);
+        best = over_states(table, g, n, j, from, top, to, before, last, best);
         j += 1;
     }
     best
@@ -75,7 +76,7 @@ fn pair_cost(
 // The least of a count and of the runs whose symbol goes after j turn ends; `before` and `last` are the lanes of the turn
 // ends before turns j and n.
 fn over_states(
-    t: &[u64],
+    table: &[u64],
     g: usize,
     n: usize,
     j: usize,
@@ -87,21 +88,21 @@ fn over_states(
     old: u64,
 ) -> u64
     requires { ⌜
-        (length (now t) ≡ size) × (g ≤ 4) × (n ≤ 2) × (j ≤ n) × (from < 4) × (top < 17) × (to < 4) × (before < 16)
+        (length (now table) ≡ size) × (g ≤ 4) × (n ≤ 2) × (j ≤ n) × (from < 4) × (top < 17) × (to < 4) × (before < 16)
         × (last < 16)
         ⌝ }
     ensures { λ r. ⌜
         ((ends : ℕ → TurnEnd) → LaneTo ends j before → LaneTo ends n last
-        → r ≡ overStates ends (now (t .entry)) (control 0 from) top (control n to) j g old)
+        → r ≡ overStates ends (now (table .entry)) (control 0 from) top (control n to) j g old)
         ⌝ }
 {
     let mut best = old;
-    let mut s = 0;
-    while s < g {
-        let gone = entry_at(t, j, from, top, s, before);
-        let rest = entry_at(t, n - j, s, 16, 4 + to, last);
+    let mut q = 0;
+    while q < g {
+        let gone = entry_at(table, j, from, top, q, before);
+        let rest = entry_at(table, n - j, q, 16, 4 + to, last);
         best = joined(gone, rest, best);
-        s += 1;
+        q += 1;
     }
     best
 }
@@ -110,24 +111,24 @@ fn over_states(
 pub fn joined(x: u64, y: u64, old: u64) -> u64
     ensures { λ r. ⌜ r ≡ bestOf 0 x y old ⌝ }
 {
-    if 4096 < x {
+    if CAP < x {
         return old;
     }
     better(x, y, old)
 }
 
 // The entry of a stretch with `gap` turn ends inside; `lane` is that of the last of them.
-pub fn entry_at(t: &[u64], gap: usize, s: usize, top: usize, d: usize, lane: usize) -> u64
-    requires { ⌜ (length (now t) ≡ size) × (gap ≤ 2) × (s < 4) × (top < 17) × (d < 8) × (lane < 16) ⌝ }
-    ensures { λ r. ⌜ r ≡ cell (now (t .entry)) (placeAt gap s top d lane) ⌝ }
+pub fn entry_at(table: &[u64], gap: usize, q: usize, top: usize, d: usize, lane: usize) -> u64
+    requires { ⌜ (length (now table) ≡ size) × (gap ≤ 2) × (q < 4) × (top < 17) × (d < 8) × (lane < 16) ⌝ }
+    ensures { λ r. ⌜ r ≡ cell (now (table .entry)) (cellAt gap q top d lane) ⌝ }
 {
     if gap == 0 {
-        return t[place(s, top, d)];
+        return table[plain_cell(q, top, d)];
     }
     if gap == 1 {
-        return t[lane_place(FIRST, s, top, d) + lane];
+        return table[lane_cell(FIRST, q, top, d) + lane];
     }
-    t[lane_place(SECOND, s, top, d) + lane]
+    table[lane_cell(SECOND, q, top, d) + lane]
 }
 
 // The lane of the turn end before turn j, of the two that there are at most.

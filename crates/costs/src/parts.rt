@@ -5,16 +5,16 @@ ghost use Prim.Native.Nat.{_+_, _*_, _^_, _≤_, _<_};
 ghost use lib.ListN.{getD};
 ghost use Rattle.model.specs.Lines.{digits};
 ghost use Rattle.costs.specs.Ends.{turnOf, firstState};
-ghost use Rattle.costs.specs.Lanes.{lineLane};
+ghost use Rattle.costs.specs.Lanes.{fullLines, lineLane};
 
-// A power of G: so many lines have k states.
-pub fn power(g: usize, k: usize) -> usize
-    requires { ⌜ (g ≤ 4) × (k ≤ 6) ⌝ }
-    ensures { λ r. ⌜ (r ≡ g ^ k) × (r ≤ 4096) ⌝ }
+// A power of G: so many lines have `len` states.
+pub fn power(g: usize, len: usize) -> usize
+    requires { ⌜ (g ≤ 4) × (len ≤ 6) ⌝ }
+    ensures { λ r. ⌜ (r ≡ g ^ len) × (r ≤ fullLines) ⌝ }
 {
     let mut r = 1;
     let mut i = 0;
-    while i < k {
+    while i < len {
         r *= g;
         i += 1;
     }

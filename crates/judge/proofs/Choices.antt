@@ -11,6 +11,7 @@ use Rattle.summary.specs.Edges.{bestOf}
 use Rattle.summary.proofs.Relaxing.{better}
 use Rattle.judge.specs.declared.Choice.{Choice}
 use Rattle.judge.specs.Best.{Open, Best}
+use Rattle.summary.specs.Table.{unreached, cap}
 
 module _ {g target : ℕ} {a b : List ℕ} where
   -- A line that is open among those up to n was open before, if it is not n.
@@ -22,7 +23,7 @@ module _ {g target : ℕ} {a b : List ℕ} where
   later o = record { low = omega (arith, o .low); ends = o .ends; first = o .first; second = o .second }
 
   -- Among no lines there is none.
-  pub best-none : (line : ℕ) → Best g target 0 a b (record { line = line; steps = 4097 })
+  pub best-none : (line : ℕ) → Best g target 0 a b (record { line = line; steps = unreached })
   best-none line = record { some = λ h. absurd (omega arith); least = λ v o. absurd (omega (arith, o .low)) }
 
   -- A line that ends elsewhere changes nothing.
@@ -36,7 +37,7 @@ module _ {g target : ℕ} {a b : List ℕ} where
   module _ {n steps : ℕ} {c : Choice} (e : steps ≡ bestOf 0 (getD a n 0) (getD b n 0) (c .steps))
       (p : Best g target n a b c) where
     -- No open line up to n has fewer steps than the lesser of the old ones and of those along n.
-    least-of : (v : ℕ) → Open g target (n + 1) a b v → (steps ≤ 4096) × (steps ≤ getD a v 0 + getD b v 0)
+    least-of : (v : ℕ) → Open g target (n + 1) a b v → (steps ≤ cap) × (steps ≤ getD a v 0 + getD b v 0)
     least-of v o =
         let r = better 0 (getD a n 0) (getD b n 0) (c .steps) in
         elim (ℕ-discrete v n) [

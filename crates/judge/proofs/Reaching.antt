@@ -16,13 +16,14 @@ use Rattle.model.proofs.Inside.{inside}
 use Rattle.model.proofs.Positions.{length-digits, digits-value}
 use Rattle.model.proofs.Ranges.{valid-fits}
 use Rattle.model.proofs.Turns.{legal-full}
-use Rattle.summary.specs.Table.{capped, Least}
+use Rattle.summary.specs.Table.{cap, capped, Least}
 use Rattle.costs.specs.Cost.{BothCosts}
 use Rattle.draw.proofs.Full.{last-digits}
 use Rattle.draw.proofs.Marks.{line-cost, full-cost}
 use Rattle.costs.proofs.Views.{views, joined}
 use Rattle.judge.specs.declared.Choice.{Choice}
 use Rattle.judge.specs.Best.{Best}
+use Rattle.model.specs.Schedules.{mostSteps}
 
 module _ {m : Model} where
   module _ (f : Fits m) where
@@ -53,7 +54,7 @@ module _ {m : Model} where
       pub reaching : Least (Reaches m) (c .steps)
       reaching = record { some = some; least = λ {ss} r. least r }
         where
-          some : c .steps ≤ 4096 → (ss : List Step) × Reaches m ss × (capped (length ss) ≡ c .steps)
+          some : c .steps ≤ cap → (ss : List Step) × Reaches m ss × (capped (length ss) ≡ c .steps)
           some h =
               let s = best .some h in
               let o = s .0 in
@@ -62,7 +63,7 @@ module _ {m : Model} where
               let r = joined {σ = startStacks m} (p .1) (q .1) in
               (r .0, run-reaches (o .low) (o .ends) (r .1), omega (arith, p .2, q .2, r .2, s .1))
 
-          least : {ss : List Step} → Reaches m ss → (c .steps ≤ 4096) × (c .steps ≤ length ss)
+          least : {ss : List Step} → Reaches m ss → (c .steps ≤ cap) × (c .steps ≤ length ss)
           least {ss} r =
               let w = legal-full ss (m .target .0) (f .k .0) .0 r in
               let states = inside (valid-fits m .1 f) (f .start) (w .turns) in
@@ -80,17 +81,17 @@ module _ {m : Model} where
               (z .0, omega (arith, z .1, i .1, j .1, v .steps))
 
   -- The verdict by the least steps of the runs that reach the target: above 4,096 there is none ..
-  pub judged-clear : {n : ℕ} → Least (Reaches m) n → 4096 < n → Judged m clear
+  pub judged-clear : {n : ℕ} → Least (Reaches m) n → cap < n → Judged m clear
   judged-clear l h ss r = omega (arith, l .least r .0)
 
   -- .. at 4,096 each has so many steps or more ..
-  pub judged-long : {n : ℕ} → Least (Reaches m) n → n ≡ 4096 → Judged m long
+  pub judged-long : {n : ℕ} → Least (Reaches m) n → n ≡ cap → Judged m long
   judged-long l e =
       let s = l .some (omega arith) in
       ((s .0, s .1), λ ss r. omega (arith, l .least r .1))
 
   -- .. and below it one has just so many.
-  pub judged-found : {n : ℕ} → Least (Reaches m) n → n ≤ 4095 → Judged m (found n)
+  pub judged-found : {n : ℕ} → Least (Reaches m) n → n ≤ mostSteps → Judged m (found n)
   judged-found l h =
       let s = l .some (omega arith) in
       (h, record { schedule = s .0; reaches = s .1; steps = omega (arith, s .2); least = λ ss r. l .least r .1 })

@@ -12,7 +12,7 @@ use Rattle.model.specs.declared.Model.{Model}
 use Rattle.model.specs.Fits.{Fits}
 use Rattle.model.specs.Lines.{digits}
 use Rattle.model.specs.Runs.{Reaches, Turns}
-use Rattle.model.specs.Schedules.{Stored}
+use Rattle.model.specs.Schedules.{Stored, mostSteps}
 use Rattle.model.specs.Tables.{tableFits}
 use Rattle.model.specs.Valid.{Valid}
 use Rattle.model.specs.Walk.{startStacks}
@@ -31,14 +31,15 @@ use Rattle.judge.specs.declared.Choice.{Choice}
 use Rattle.judge.specs.declared.Judgement.the-variants.{Found}
 use Rattle.judge.specs.Answer.{refusalOf, Answers}
 use Rattle.judge.specs.Best.{Best}
+use Rattle.costs.specs.Lanes.{fullLines}
 use Rattle.judge.proofs.Reaching.{run-reaches}
 
 module _ {m : Model} (f : Fits m) {a b : List ℕ} {c : Choice}
-    (best : Best (m .g) (m .target .0) (m .g ^ (2 * m .k)) a b c) (most : c .steps ≤ 4095) where
+    (best : Best (m .g) (m .target .0) (m .g ^ (2 * m .k)) a b c) (most : c .steps ≤ mostSteps) where
   -- The best line has a place in the lists of costs.
-  pub best-low : c .line < 4096
+  pub best-low : c .line < fullLines
   best-low =
-      let small : m .g ^ (2 * m .k) ≤ 4096 = power-small {n = 2 * m .k} (f .g .1) (omega (arith, f .k)) in
+      let small : m .g ^ (2 * m .k) ≤ fullLines = power-small {n = 2 * m .k} (f .g .1) (omega (arith, f .k)) in
       omega (arith, best .some (omega arith) .0 .low)
 
   -- Its two costs add up to the steps.
@@ -70,7 +71,7 @@ module _ {m : Model} (f : Fits m) {a b : List ℕ} {c : Choice}
       }
 
 -- Replay accepts a schedule that stands in a store with room for it, and says that it reaches the target.
-pub replayed : (m : Model) {n : ℕ} {old new : List ℕ} → Valid m → n ≤ 4095 → 2 * n ≤ length old
+pub replayed : (m : Model) {n : ℕ} {old new : List ℕ} → Valid m → n ≤ mostSteps → 2 * n ≤ length old
     → Stored (Reaches m) n 0 old new → replayOf m (take (2 * n) new) ≡ Accepted (m .target) true
 replayed m {n} {old} {new} v most room s =
     accepts m (take (2 * n) new) (m .target) true .1 (record {

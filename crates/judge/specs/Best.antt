@@ -3,19 +3,19 @@ use mathlib.Core.List.{List}
 use mathlib.Core.Path.{_≡_}
 use Prim.Native.Nat.{ℕ, _+_, _%_, _≤_, _<_}
 use lib.ListN.{getD}
-use Rattle.summary.specs.Table.{capped}
+use Rattle.summary.specs.Table.{cap, capped}
 use Rattle.judge.specs.declared.Choice.{Choice}
 
 -- A full line, by its value v below n, that ends in the target and that both threads can follow.
 pub record Open (g target n : ℕ) (a b : List ℕ) (v : ℕ) : Type 0 where
   pub low : v < n
   pub ends : v % g ≡ target
-  pub first : getD a v 0 ≤ 4096
-  pub second : getD b v 0 ≤ 4096
+  pub first : getD a v 0 ≤ cap
+  pub second : getD b v 0 ≤ cap
 
--- A choice among the lines below n: where its steps are at most 4,096 they are those of both threads along its own line,
+-- A choice among the lines below n: where its steps are not above the cap they are those of both threads along its own line,
 -- capped; and no open line has fewer, both threads' steps taken on that same line.
 pub record Best (g target n : ℕ) (a b : List ℕ) (c : Choice) : Type 0 where
-  pub some : c .steps ≤ 4096
+  pub some : c .steps ≤ cap
       → Open g target n a b (c .line) × (capped (getD a (c .line) 0 + getD b (c .line) 0) ≡ c .steps)
-  pub least : (v : ℕ) → Open g target n a b v → (c .steps ≤ 4096) × (c .steps ≤ getD a v 0 + getD b v 0)
+  pub least : (v : ℕ) → Open g target n a b v → (c .steps ≤ cap) × (c .steps ≤ getD a v 0 + getD b v 0)

@@ -1,20 +1,22 @@
 // The full line to the target along which the two threads together make the fewest steps.
 ghost use Prim.Native.Nat.{_+_, _*_, _^_, _≤_, _<_};
 ghost use lib.ListN.{length};
+ghost use Rattle.costs.specs.Lanes.{fullLines};
 ghost use Rattle.judge.specs.Best.{Best};
 use crate::Choice;
 use costs::line::joined;
 use costs::parts::power;
+use summary::UNREACHED;
 
 // The best of all full lines that end in the target; `a` and `b` hold each line's least steps of the two threads.
 pub fn choose(g: usize, k: usize, target: usize, a: &[u64], b: &[u64]) -> Choice
-    requires { ⌜ (1 ≤ g) × (g ≤ 4) × (k ≤ 3) × (4096 ≤ length (now a)) × (4096 ≤ length (now b)) ⌝ }
+    requires { ⌜ (1 ≤ g) × (g ≤ 4) × (k ≤ 3) × (fullLines ≤ length (now a)) × (fullLines ≤ length (now b)) ⌝ }
     ensures { λ r. ⌜ Best g target (g ^ (2 * k)) (now (a .entry)) (now (b .entry)) r ⌝ }
 {
     let count = power(g, 2 * k);
     let mut best = Choice {
         line: 0,
-        steps: 4097,
+        steps: UNREACHED,
     };
     let mut v = 0;
     while v < count {

@@ -6,6 +6,14 @@ use lib.ListN.{length, getD, drop}
 use lib.Seq.{sets}
 use Rattle.model.specs.Walk.{Step}
 
+-- The most steps that a schedule may have.
+abbrev pub mostSteps : ℕ
+mostSteps = 4095
+
+-- The bytes of such a schedule.
+abbrev pub mostBytes : ℕ
+mostBytes = 8190
+
 -- A schedule as bytes: two for each step, the turn number and then the rule's number.
 abbrev pub bytesOf : List Step → List ℕ
 bytesOf [] = []

@@ -1,11 +1,12 @@
 -- The three verdicts, over all schedules of any length.
 use mathlib.Core.List.{List}
 use mathlib.Core.Path.{_≡_}
-use Prim.Native.Nat.{ℕ, _≤_}
+use Prim.Native.Nat.{ℕ, suc, _≤_}
 use lib.ListN.{length}
 use Rattle.model.specs.declared.Model.{Model}
 use Rattle.model.specs.Walk.{Step}
 use Rattle.model.specs.Runs.{Reaches}
+use Rattle.model.specs.Schedules.{mostSteps}
 
 -- What is said of a model. Found carries the number of steps of a shortest run.
 pub data Verdict : Type 0 where
@@ -23,9 +24,9 @@ pub record Shortest (m : Model) (n : ℕ) : Type 0 where
   pub steps : length schedule ≡ n
   pub least : AtLeast m n
 
--- Clear: no run reaches the target. Long: some run does, and each that does has more than 4,095 steps.
--- Found n: a shortest run that does has n steps, at most 4,095.
+-- Clear: no run reaches the target. Long: some run does, and each that does has more steps than a schedule may have.
+-- Found n: a shortest run that does has n steps, and a schedule may have as many.
 abbrev pub Judged : Model → Verdict → Type 0
 Judged m clear = (ss : List Step) → Reaches m ss → ⊥
-Judged m long = ((ss : List Step) × Reaches m ss) × AtLeast m 4096
-Judged m (found n) = (n ≤ 4095) × Shortest m n
+Judged m long = ((ss : List Step) × Reaches m ss) × AtLeast m (suc mostSteps)
+Judged m (found n) = (n ≤ mostSteps) × Shortest m n

@@ -56,6 +56,9 @@ pub const ZERO_RULE: Rule = Rule {
     right: Right::Remove,
 };
 
+// The bytes of the longest schedule: two for each of 4,095 steps.
+pub const MOST_BYTES: usize = 8190;
+
 // The line bits for G from 1 to 4 (rows) and K from 1 to 3 (columns).
 const LINE_BITS: [[u16; 3]; 4] = [[2, 4, 6], [6, 30, 126], [12, 120, 1092], [20, 340, 5460]];
 

@@ -8,15 +8,15 @@ use lib.ListN.{length}
 use Rattle.model.specs.declared.Model.{Model}
 use Rattle.model.specs.Results.{refused, accepted, unless, refuse, firstOf}
 use Rattle.model.specs.Runs.{Leads}
-use Rattle.model.specs.Schedules.{bytesOf, stepsOf}
+use Rattle.model.specs.Schedules.{bytesOf, stepsOf, mostBytes}
 use Rattle.model.specs.Valid.{Valid, faultOf}
 use Rattle.model.specs.Walk.{Step, Walked, startOf, walk}
 use Rattle.replay.specs.declared.Replayed.{Replayed}
 use Rattle.replay.specs.declared.Replayed.the-variants.{Accepted, Refused}
 
--- The bytes are whole steps, and no more than 4,095 of them.
+-- The bytes are whole steps, and no more of them than a schedule may have.
 unfoldable pub sizeFits : List ℕ → Bool
-sizeFits bytes = eqb (length bytes % 2) 0 && leb (length bytes) 8190
+sizeFits bytes = eqb (length bytes % 2) 0 && leb (length bytes) mostBytes
 
 -- What is refused before the walk, in order: the model's fault (3, 4), then the schedule's size (8); 0 for nothing.
 abbrev pub sizeRefusal : Model → List ℕ → ℕ

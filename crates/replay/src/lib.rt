@@ -7,6 +7,7 @@ ghost use Rattle.model.specs.Schedules.{stepsOf};
 ghost use Rattle.model.specs.Walk.{stepFrom, walk};
 ghost use Rattle.replay.specs.Replay.{replayOf};
 ghost use Rattle.replay.specs.Stack.{topFirst, configOf, walkedOf, Counted, Room, Grows, moveOf, movedOf, Fires};
+use model::MOST_BYTES;
 use model::Model;
 use model::Right;
 use model::Shared;
@@ -39,6 +40,9 @@ pub enum Fired {
     Stuck,
 }
 
+// Room for a stack: one symbol at the start, and one more for each step.
+const STACK: usize = 4096;
+
 // The walk of a schedule from the model's start, once the model and the schedule's size are found good.
 pub fn replay(m: Model, schedule: &[u8]) -> Replayed
     ensures { λ r. ⌜ r ≡ replayOf m (now (schedule .entry)) ⌝ }
@@ -50,11 +54,11 @@ pub fn replay(m: Model, schedule: &[u8]) -> Replayed
     if schedule.len() % 2 != 0 {
         return Replayed::Refused(8);
     }
-    if 8190 < schedule.len() {
+    if MOST_BYTES < schedule.len() {
         return Replayed::Refused(8);
     }
-    let mut a = [0u8; 4096];
-    let mut b = [0u8; 4096];
+    let mut a = [0u8; STACK];
+    let mut b = [0u8; STACK];
     a[0] = m.a.first.0;
     b[0] = m.b.first.0;
     let start = Walk {

@@ -13,7 +13,7 @@ use Rattle.summary.specs.Table.{Exact}
 use Rattle.summary.proofs.Tables.{Ranged, Closed, bounded}
 
 module _ {C S : Type 0} (Move : C → ℕ → S → Right → C → Type 0) (Switch : C → C → Type 0) (T : C → ℕ → End C → ℕ) where
-  -- A first move whose entries add up, with the places that its parts have.
+  -- A first move whose entries add up, with the cells that its parts have.
   pub data Best (Ctl : C → Type 0) : C → ℕ → End C → Type 0 where
     here : {c : C} {γ : ℕ} → T c γ (stay c) ≡ 0 → Best Ctl c γ (stay c)
     remove : {c c₁ : C} {γ : ℕ} {s : S} → Move c γ s Remove c₁ → T c γ (pop c₁) ≡ 1 → Best Ctl c γ (pop c₁)
@@ -35,23 +35,23 @@ module _ {C S : Type 0} (Move : C → ℕ → S → Right → C → Type 0) (Swi
   best R K {c} {γ} {d} p q (Stretch.swap {c₁ = c₁} {a = a} m r) e =
       let i = R .moves p m in
       let h = bounded _ _ _ _ R K (i .0) (i .1) r in
-      let z : T c γ d ≡ 1 + T c₁ (a .0) d = omega (arith, h .most, K .swap d p q (h .place) m (h .reached) .most) in
+      let z : T c γ d ≡ 1 + T c₁ (a .0) d = omega (arith, h .most, K .swap d p q (h .inside) m (h .reached) .most) in
       swap m z
   best R K {c} {γ} {d} p q (Stretch.both {c₁ = c₁} {q = u} {a = a} {b = b} m r t) e =
       let i = R .moves p m in
       let h = bounded _ _ _ _ R K (i .0) (i .1 .0) r in
-      let k = bounded _ _ _ _ R K (h .place) (i .1 .1) t in
-      let l = K .both u d p q (h .place) (k .place) m (h .reached) (k .reached) in
+      let k = bounded _ _ _ _ R K (h .inside) (i .1 .1) t in
+      let l = K .both u d p q (h .inside) (k .inside) m (h .reached) (k .reached) in
       let z : T c γ d ≡ 1 + T c₁ (a .0) (pop u) + T u (b .0) d = omega (arith, h .most, k .most, l .most) in
-      both m (h .place) z
+      both m (h .inside) z
   best R K {c} {γ} p q (Stretch.above {c₁ = c₁} {q = u} {a = a} m r) e =
       let i = R .moves p m in
       let h = bounded _ _ _ _ R K (i .0) (i .1 .0) r in
-      let z : T c γ (stay u) ≡ 1 + T c₁ (a .0) (stay u) = omega (arith, h .most, K .above u p q (h .place) m (h .reached) .most) in
+      let z : T c γ (stay u) ≡ 1 + T c₁ (a .0) (stay u) = omega (arith, h .most, K .above u p q (h .inside) m (h .reached) .most) in
       above m z
   best R K {c} {γ} {d} p q (Stretch.change {c₁ = c₁} s r) e =
       let h = bounded _ _ _ _ R K (R .switches p s) q r in
-      let z : T c γ d ≡ T c₁ γ d = omega (arith, h .most, K .change γ d p q (h .place) s (h .reached) .most) in
+      let z : T c γ d ≡ T c₁ γ d = omega (arith, h .most, K .change γ d p q (h .inside) s (h .reached) .most) in
       change s z
 
   -- Exact entries are closed: what is made of stretches that exist is one that exists, and its entry is no more.

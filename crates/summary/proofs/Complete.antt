@@ -17,30 +17,31 @@ use Rattle.model.specs.Fits.{ThreadFits}
 use Rattle.summary.specs.Cells.{plain, laneOf, first, second, rest, blank, plainBy}
 use Rattle.summary.specs.Cells.{laneBy, crossBy, LaneRule, CrossRule, FirstEnds, SecondEnds, Rules, Plain}
 use Rattle.summary.specs.Control.{Control, TurnEnd, Moves, Switches, dest, entry, InTable, Inside}
-use Rattle.summary.specs.Edges.{Edge, cell, Holds}
+use Rattle.summary.specs.Edges.{Edge, cell, EdgeHolds}
 use Rattle.summary.specs.Stretch.{End, pop, stay, endOf}
+use Rattle.summary.specs.Table.{cap}
 use Rattle.summary.proofs.Ranging.{Sym}
 use Rattle.summary.proofs.Tables.{AtMost, Closed}
-use Rattle.summary.proofs.Joins.{blank-here, dest-low, RuleReady, at, remove-at, swap-at, above-at, both-at, changed}
+use Rattle.summary.proofs.Joins.{blank-here, dest-low, RuleEdgesHold, at, remove-at, swap-at, above-at, both-at, changed}
 
 -- The edges that hold in a table, by the number of turn ends of the line.
-pub record Ready (t : Thread) (G n : ℕ) (ends : ℕ → TurnEnd) (tab : List ℕ) : Type 0 where
+pub record EdgesHold (t : Thread) (G n : ℕ) (ends : ℕ → TurnEnd) (tab : List ℕ) : Type 0 where
   pub low : (k : ℕ) → k < first → cell tab k ≤ blank k
-  pub plains : (e : Edge) → Plain t G e → Holds tab e
-  pub ends1 : 1 ≤ n → (e : Edge) → FirstEnds G e → Holds tab e
-  pub lanes1 : 1 ≤ n → (e : Edge) → Rules t (LaneRule first G) e → Holds tab e
-  pub ends2 : 2 ≤ n → (e : Edge) → SecondEnds (ends 0 .leave) (ends 0 .enter) e → Holds tab e
-  pub cross2 : 2 ≤ n → (e : Edge) → Rules t (CrossRule (laneOf (ends 0 .leave) (ends 0 .enter)) G) e → Holds tab e
-  pub lanes2 : 2 ≤ n → (e : Edge) → Rules t (LaneRule second G) e → Holds tab e
+  pub plains : (e : Edge) → Plain t G e → EdgeHolds tab e
+  pub ends1 : 1 ≤ n → (e : Edge) → FirstEnds G e → EdgeHolds tab e
+  pub lanes1 : 1 ≤ n → (e : Edge) → Rules t (LaneRule first G) e → EdgeHolds tab e
+  pub ends2 : 2 ≤ n → (e : Edge) → SecondEnds (ends 0 .leave) (ends 0 .enter) e → EdgeHolds tab e
+  pub cross2 : 2 ≤ n → (e : Edge) → Rules t (CrossRule (laneOf (ends 0 .leave) (ends 0 .enter)) G) e → EdgeHolds tab e
+  pub lanes2 : 2 ≤ n → (e : Edge) → Rules t (LaneRule second G) e → EdgeHolds tab e
 
 module _ {t : Thread} {G n : ℕ} (turnOf : ℕ → ℕ) {ends : ℕ → TurnEnd} {tab : List ℕ} (fits : ThreadFits G t) (four : G ≤ 4) (two : n ≤ 2)
-    (inside : Inside G n ends) (R : Ready t G n ends tab) where
+    (inside : Inside G n ends) (R : EdgesHold t G n ends tab) where
   abbrev Ctl : Control → Type 0
   Ctl c = InTable G n c
 
   -- The edges of the rule of a move.
   ready : {c d : Control} {γ : ℕ} {s : Step} {x : Right} → Moves t turnOf c γ s x d
-      → RuleReady G n ends tab (c .shared) γ (d .shared) x
+      → RuleEdgesHold G n ends tab (c .shared) γ (d .shared) x
   ready {c} {d} {γ} {s} {x} m =
       record {
         plains = moved (plainBy G) (R .plains);
@@ -50,8 +51,8 @@ module _ {t : Thread} {G n : ℕ} (turnOf : ℕ → ℕ) {ends : ℕ → TurnEnd
       }
     where
       moved : (F : ℕ → ℕ → ℕ → Right → Edge → Type 0)
-          → ((e : Edge) → Rules t (λ r. F (r .before .0) (r .symbol .0) (r .after .0) (r .right)) e → Holds tab e)
-          → (e : Edge) → F (c .shared) γ (d .shared) x e → Holds tab e
+          → ((e : Edge) → Rules t (λ r. F (r .before .0) (r .symbol .0) (r .after .0) (r .right)) e → EdgeHolds tab e)
+          → (e : Edge) → F (c .shared) γ (d .shared) x e → EdgeHolds tab e
       moved F h e f =
           let a = applies-iff t (s .rule) (c .shared) γ .0 (m .rule) in
           h e (record { i = s .rule; inside = a .listed; at = rw (a .state, a .symbol, m .right, ← m .shared) f })
@@ -65,7 +66,7 @@ module _ {t : Thread} {G n : ℕ} (turnOf : ℕ → ℕ) {ends : ℕ → TurnEnd
       rw (le-leb (c .passed) (endOf d .passed) h, g) (ap (λ i. cell tab (at ends k i (c .shared) γ (dest d))) p)
 
   -- An entry that is reached has a number of turn ends inside.
-  gap : (c : Control) (γ : ℕ) (d : End Control) → entry ends tab c γ d ≤ 4096 → (k : ℕ) × (c .passed + k ≡ endOf d .passed)
+  gap : (c : Control) (γ : ℕ) (d : End Control) → entry ends tab c γ d ≤ cap → (k : ℕ) × (c .passed + k ≡ endOf d .passed)
   gap c γ d h =
       elim (decLe (c .passed) (endOf d .passed)) [
         | yes l ↦ (endOf d .passed - c .passed, omega arith)
@@ -102,7 +103,7 @@ module _ {t : Thread} {G n : ℕ} (turnOf : ℕ → ℕ) {ends : ℕ → TurnEnd
           (remove-at tab four two inside at-rest (c .passed) (ready m))
 
       swap : {c c₁ : Control} {γ : ℕ} {s : Step} {a : Symbol} (d : End Control) → Ctl c → Sym γ → Ctl (endOf d)
-          → Moves t turnOf c γ s (Swap a) c₁ → entry ends tab c₁ (a .0) d ≤ 4096
+          → Moves t turnOf c γ s (Swap a) c₁ → entry ends tab c₁ (a .0) d ≤ cap
           → AtMost (entry ends tab c γ d) (1 + entry ends tab c₁ (a .0) d)
       swap {c} {c₁} {γ} {a = a} d p q o m h =
           let k = gap c₁ (a .0) d h in
@@ -112,7 +113,7 @@ module _ {t : Thread} {G n : ℕ} (turnOf : ℕ → ℕ) {ends : ℕ → TurnEnd
 
       both : {c c₁ : Control} {γ : ℕ} {s : Step} {a b : Symbol} (q : Control) (d : End Control) → Ctl c → Sym γ
           → Ctl q → Ctl (endOf d)
-          → Moves t turnOf c γ s (Push a b) c₁ → entry ends tab c₁ (a .0) (pop q) ≤ 4096 → entry ends tab q (b .0) d ≤ 4096
+          → Moves t turnOf c γ s (Push a b) c₁ → entry ends tab c₁ (a .0) (pop q) ≤ cap → entry ends tab q (b .0) d ≤ cap
           → AtMost (entry ends tab c γ d) (1 + entry ends tab c₁ (a .0) (pop q) + entry ends tab q (b .0) d)
       both {c} {c₁} {γ} {a = a} {b = b} q d p z o y m h g =
           let i = gap c₁ (a .0) (pop q) h in
@@ -126,7 +127,7 @@ module _ {t : Thread} {G n : ℕ} (turnOf : ℕ → ℕ) {ends : ℕ → TurnEnd
           (rw one at h) (rw other at g))
 
       above : {c c₁ : Control} {γ : ℕ} {s : Step} {a b : Symbol} (q : Control) → Ctl c → Sym γ → Ctl q
-          → Moves t turnOf c γ s (Push a b) c₁ → entry ends tab c₁ (a .0) (stay q) ≤ 4096
+          → Moves t turnOf c γ s (Push a b) c₁ → entry ends tab c₁ (a .0) (stay q) ≤ cap
           → AtMost (entry ends tab c γ (stay q)) (1 + entry ends tab c₁ (a .0) (stay q))
       above {c} {c₁} {γ} {a = a} q p z o m h =
           let k = gap c₁ (a .0) (stay q) h in
@@ -136,7 +137,7 @@ module _ {t : Thread} {G n : ℕ} (turnOf : ℕ → ℕ) {ends : ℕ → TurnEnd
           rw (one, other) (above-at tab four two inside at-rest (k .0) (c .passed) (q .shared) (omega arith) (omega arith) (ready m) (rw other at h))
 
       change : {c c₁ : Control} (γ : ℕ) (d : End Control) → Ctl c → Sym γ → Ctl (endOf d)
-          → Switches ends n c c₁ → entry ends tab c₁ γ d ≤ 4096 → AtMost (entry ends tab c γ d) (entry ends tab c₁ γ d)
+          → Switches ends n c c₁ → entry ends tab c₁ γ d ≤ cap → AtMost (entry ends tab c γ d) (entry ends tab c₁ γ d)
       change {c} {c₁} γ d p q o s h =
           let k = gap c₁ γ d h in
           let end : c .passed + suc (k .0) ≡ endOf d .passed = omega (arith, k .1, s .passed) in

@@ -12,11 +12,11 @@ use Rattle.model.specs.declared.Thread.{Thread}
 use Rattle.model.specs.Walk.{Step}
 use Rattle.model.specs.Fits.{ThreadFits}
 use Rattle.summary.specs.Cells.{first, second, size, blank, Plain, First, Second, Solved}
-use Rattle.summary.specs.Control.{Control, TurnEnd, Moves, Switches, dest, placeOf, entry, InTable, Inside, Summed}
+use Rattle.summary.specs.Control.{Control, TurnEnd, Moves, Switches, dest, cellOf, entry, InTable, Inside, Summed}
 use Rattle.summary.specs.Edges.{cell, From}
 use Rattle.summary.specs.Stretch.{End, endOf}
-use Rattle.summary.specs.Table.{Uses}
-use Rattle.summary.proofs.Complete.{Ready, closed}
+use Rattle.summary.specs.Table.{cap, Uses}
+use Rattle.summary.proofs.Complete.{EdgesHold, closed}
 use Rattle.summary.proofs.Joins.{dest-low}
 use Rattle.summary.proofs.Ranging.{ranged}
 use Rattle.summary.proofs.Relaxing.{wider}
@@ -29,43 +29,43 @@ bound zero = first
 bound (suc zero) = second
 bound (suc (suc n)) = size
 
--- A place is within its part of the table.
-place-low : (ends : ℕ → TurnEnd) (G : ℕ) (n k : ℕ) (c : Control) (γ d : ℕ) → G ≤ 4 → n ≤ 2 → Inside G n ends
+-- A cell is within its part of the table.
+cell-low : (ends : ℕ → TurnEnd) (G : ℕ) (n k : ℕ) (c : Control) (γ d : ℕ) → G ≤ 4 → n ≤ 2 → Inside G n ends
     → c .passed + k ≤ n → c .shared < G → γ ≤ 16 → d < 8
-    → placeOf ends k c γ d < bound n
-place-low ends G zero zero c γ d four two inside e g s i = omega arith
-place-low ends G (suc zero) zero c γ d four two inside e g s i = omega arith
-place-low ends G (suc (suc n)) zero c γ d four two inside e g s i = omega arith
-place-low ends G zero (suc k) c γ d four two inside e g s i = absurd (omega arith)
-place-low ends G (suc zero) (suc zero) c γ d four two inside e g s i = let l = inside (c .passed) (omega arith) in omega arith
-place-low ends G (suc (suc n)) (suc zero) c γ d four two inside e g s i = let l = inside (c .passed) (omega arith) in omega arith
-place-low ends G (suc zero) (suc (suc k)) c γ d four two inside e g s i = absurd (omega arith)
-place-low ends G (suc (suc n)) (suc (suc k)) c γ d four two inside e g s i = let l = inside (suc (c .passed)) (omega arith) in omega arith
+    → cellOf ends k c γ d < bound n
+cell-low ends G zero zero c γ d four two inside e g s i = omega arith
+cell-low ends G (suc zero) zero c γ d four two inside e g s i = omega arith
+cell-low ends G (suc (suc n)) zero c γ d four two inside e g s i = omega arith
+cell-low ends G zero (suc k) c γ d four two inside e g s i = absurd (omega arith)
+cell-low ends G (suc zero) (suc zero) c γ d four two inside e g s i = let l = inside (c .passed) (omega arith) in omega arith
+cell-low ends G (suc (suc n)) (suc zero) c γ d four two inside e g s i = let l = inside (c .passed) (omega arith) in omega arith
+cell-low ends G (suc zero) (suc (suc k)) c γ d four two inside e g s i = absurd (omega arith)
+cell-low ends G (suc (suc n)) (suc (suc k)) c γ d four two inside e g s i = let l = inside (suc (c .passed)) (omega arith) in omega arith
 
 module _ {t : Thread} {G n : ℕ} {ends : ℕ → TurnEnd} {tab : List ℕ} (fits : ThreadFits G t) (four : G ≤ 4) (two : n ≤ 2) (inside : Inside G n ends)
-    (R : Ready t G n ends tab) (from : (k : ℕ) → k < bound n → From (Second t G (ends 0 .leave) (ends 0 .enter)) blank k (cell tab k)) where
+    (R : EdgesHold t G n ends tab) (from : (k : ℕ) → k < bound n → From (Second t G (ends 0 .leave) (ends 0 .enter)) blank k (cell tab k)) where
   -- A table whose edges hold and whose counts follow by them is exact.
   pub summed : Summed t G n ends tab
   summed = record { exact = λ turnOf c γ d p q o. record { some = some turnOf c γ d p q o; least = λ {ss} s. least turnOf c γ d p q ss s } }
     where
       least : (turnOf : ℕ → ℕ) (c : Control) (γ : ℕ) (d : End Control) → InTable G n c → γ ≤ 16
           → (us : List Step) → Uses (Moves t turnOf) (Switches ends n) c γ d us
-          → (entry ends tab c γ d ≤ 4096) × (entry ends tab c γ d ≤ length us)
+          → (entry ends tab c γ d ≤ cap) × (entry ends tab c γ d ≤ length us)
       least turnOf c γ d p q us s =
           let b = bounded _ _ _ _ (ranged turnOf fits inside) (closed turnOf fits four two inside R) p q (s []) in
           (b .reached, omega (arith, b .most, ap length (append-nil us)))
 
       some : (turnOf : ℕ → ℕ) (c : Control) (γ : ℕ) (d : End Control) → InTable G n c → γ ≤ 16
-          → InTable G n (endOf d) → entry ends tab c γ d ≤ 4096
-          → (us : List Step) × Uses (Moves t turnOf) (Switches ends n) c γ d us × (min (length us) 4096 ≡ entry ends tab c γ d)
+          → InTable G n (endOf d) → entry ends tab c γ d ≤ cap
+          → (us : List Step) × Uses (Moves t turnOf) (Switches ends n) c γ d us × (min (length us) cap ≡ entry ends tab c γ d)
       some turnOf c γ d p q o h =
           elim (decLe (c .passed) (endOf d .passed)) [
             | yes l ↦
                 let k : ℕ = endOf d .passed - c .passed in
-                let place : ℕ = placeOf ends k c γ (dest d) in
-                let same : entry ends tab c γ d ≡ cell tab place = rw (le-leb (c .passed) (endOf d .passed) l) in
-                let low = place-low ends G n k c γ (dest d) four two inside (omega arith) (p .1) q (dest-low d four o) in
-                let u = sound t G turnOf ends n fits four two (λ j i. let z = inside j i in (omega arith, omega arith)) (from place low)
+                let at : ℕ = cellOf ends k c γ (dest d) in
+                let same : entry ends tab c γ d ≡ cell tab at = rw (le-leb (c .passed) (endOf d .passed) l) in
+                let low = cell-low ends G n k c γ (dest d) four two inside (omega arith) (p .1) q (dest-low d four o) in
+                let u = sound t G turnOf ends n fits four two (λ j i. let z = inside j i in (omega arith, omega arith)) (from at low)
                 c γ d l (o .0) (p .1) q (o .1) refl (rw same at h) in
                 let b = least turnOf c γ d p q (u .0) (u .1) in
                 (u .0, u .1, omega (arith, same, u .2, b .1))

@@ -12,9 +12,10 @@ use Rattle.model.specs.declared.Right.the-variants.{Remove, Swap, Push}
 use Rattle.model.specs.declared.Symbol.{Symbol}
 use Rattle.summary.specs.Cells.{plain, laneOf, first, second, rest, blank, plainBy}
 use Rattle.summary.specs.Cells.{laneBy, crossBy, FirstEnds, SecondEnds}
-use Rattle.summary.specs.Control.{Control, TurnEnd, dest, placeOf, InTable, Inside}
-use Rattle.summary.specs.Edges.{Edge, cell, Holds, Row}
+use Rattle.summary.specs.Control.{Control, TurnEnd, dest, cellOf, InTable, Inside}
+use Rattle.summary.specs.Edges.{Edge, cell, EdgeHolds, Row}
 use Rattle.summary.specs.Stretch.{End, pop, stay, endOf}
+use Rattle.summary.specs.Table.{cap}
 use Rattle.summary.proofs.Tables.{AtMost}
 
 -- Staying in place is 0 in the blank table.
@@ -32,25 +33,25 @@ dest-low (pop c) four o = omega arith
 dest-low (stay c) four o = omega arith
 
 -- An edge of a row, at the cells that it joins.
-in-row : {tab : List ℕ} {w K A B N : ℕ} → ((e : Edge) → Row w K A B N e → Holds tab e) → (x : ℕ) → x < N → {k b : ℕ}
+in-row : {tab : List ℕ} {w K A B N : ℕ} → ((e : Edge) → Row w K A B N e → EdgeHolds tab e) → (x : ℕ) → x < N → {k b : ℕ}
     → K + x ≡ k → B + x ≡ b
-    → cell tab A ≤ 4096 → cell tab b ≤ 4096 → AtMost (cell tab k) (w + cell tab A + cell tab b)
+    → cell tab A ≤ cap → cell tab b ≤ cap → AtMost (cell tab k) (w + cell tab A + cell tab b)
 in-row {tab} {w} {K} {A} {B} h x i {k} {b} p q u v =
-    let e = h (record { w = w; k = K + x; a = A; b = B + x }) (record { x = x; inside = i; is = refl }) in
-    let v' : cell tab (B + x) ≤ 4096 = rw q v in
+    let e = h (record { w = w; to = K + x; a = A; b = B + x }) (record { x = x; inside = i; is = refl }) in
+    let v' : cell tab (B + x) ≤ cap = rw q v in
     subst (λ k. AtMost (cell tab k) (w + cell tab A + cell tab b)) p
     (subst (λ b. AtMost (cell tab (K + x)) (w + cell tab A + cell tab b)) q (record { reached = e .reached u v'; most = e .most u v' }))
 
 -- The edges of one rule hold, from state g with γ on top to state h.
-pub record RuleReady (G n : ℕ) (ends : ℕ → TurnEnd) (tab : List ℕ) (g γ h : ℕ) (x : Right) : Type 0 where
-  pub plains : (e : Edge) → plainBy G g γ h x e → Holds tab e
-  pub lanes1 : 1 ≤ n → (e : Edge) → laneBy first G g γ h x e → Holds tab e
-  pub cross2 : 2 ≤ n → (e : Edge) → crossBy (laneOf (ends 0 .leave) (ends 0 .enter)) G g γ h x e → Holds tab e
-  pub lanes2 : 2 ≤ n → (e : Edge) → laneBy second G g γ h x e → Holds tab e
+pub record RuleEdgesHold (G n : ℕ) (ends : ℕ → TurnEnd) (tab : List ℕ) (g γ h : ℕ) (x : Right) : Type 0 where
+  pub plains : (e : Edge) → plainBy G g γ h x e → EdgeHolds tab e
+  pub lanes1 : 1 ≤ n → (e : Edge) → laneBy first G g γ h x e → EdgeHolds tab e
+  pub cross2 : 2 ≤ n → (e : Edge) → crossBy (laneOf (ends 0 .leave) (ends 0 .enter)) G g γ h x e → EdgeHolds tab e
+  pub lanes2 : 2 ≤ n → (e : Edge) → laneBy second G g γ h x e → EdgeHolds tab e
 
--- The place of a stretch with k turn ends inside, from the j-th turn of the thread on.
+-- The cell of a stretch with k turn ends inside, from the j-th turn of the thread on.
 abbrev pub at : (ℕ → TurnEnd) → ℕ → ℕ → ℕ → ℕ → ℕ → ℕ
-at ends k j g γ d = placeOf ends k (record { passed = j; shared = g }) γ d
+at ends k j g γ d = cellOf ends k (record { passed = j; shared = g }) γ d
 
 -- A bound that is no less.
 weaker : {e i j : ℕ} → AtMost e i → i ≤ j → AtMost e j
@@ -63,20 +64,20 @@ module _ {G n : ℕ} {ends : ℕ → TurnEnd} (tab : List ℕ) (four : G ≤ 4) 
   lane-low j h = let i = inside j h in omega arith
 
   -- An edge of a row with one part.
-  alone : {w K B N : ℕ} → ((e : Edge) → Row w K rest B N e → Holds tab e) → (x : ℕ) → x < N → {k b : ℕ} → K + x ≡ k → B + x ≡ b
-      → cell tab b ≤ 4096 → AtMost (cell tab k) (w + cell tab b)
+  alone : {w K B N : ℕ} → ((e : Edge) → Row w K rest B N e → EdgeHolds tab e) → (x : ℕ) → x < N → {k b : ℕ} → K + x ≡ k → B + x ≡ b
+      → cell tab b ≤ cap → AtMost (cell tab k) (w + cell tab b)
   alone {w} h x i {k} {b} p q v =
       let e = in-row h x i p q (omega arith) v in record { reached = e .reached; most = omega (arith, e .most) }
 
   -- A removal is within one turn.
-  pub remove-at : {g γ h : ℕ} (j : ℕ) → RuleReady G n ends tab g γ h Remove → AtMost (cell tab (at ends 0 j g γ h)) 1
+  pub remove-at : {g γ h : ℕ} (j : ℕ) → RuleEdgesHold G n ends tab g γ h Remove → AtMost (cell tab (at ends 0 j g γ h)) 1
   remove-at j r =
       let e = alone (r .plains) 0 (omega arith) (add-zero (plain _ _ _)) (add-zero rest) (omega arith) in
       record { reached = e .reached; most = omega (arith, e .most) }
 
   -- A swap keeps the turn ends inside.
-  pub swap-at : (k j : ℕ) {g γ h : ℕ} {a : Symbol} (d : ℕ) → j + k ≤ n → d < 8 → RuleReady G n ends tab g γ h (Swap a)
-      → cell tab (at ends k j h (a .0) d) ≤ 4096 → AtMost (cell tab (at ends k j g γ d)) (1 + cell tab (at ends k j h (a .0) d))
+  pub swap-at : (k j : ℕ) {g γ h : ℕ} {a : Symbol} (d : ℕ) → j + k ≤ n → d < 8 → RuleEdgesHold G n ends tab g γ h (Swap a)
+      → cell tab (at ends k j h (a .0) d) ≤ cap → AtMost (cell tab (at ends k j g γ d)) (1 + cell tab (at ends k j h (a .0) d))
   swap-at zero j d e i r v = alone (r .plains) d i (omega arith) (omega arith) v
   swap-at (suc zero) j d e i r v =
       let l = lane-low j (omega arith) in
@@ -87,8 +88,8 @@ module _ {G n : ℕ} {ends : ℕ → TurnEnd} (tab : List ℕ) (four : G ≤ 4) 
   swap-at (suc (suc (suc k))) j d e i r v = absurd (omega arith)
 
   -- A push that never comes down to its second symbol.
-  pub above-at : (k j : ℕ) {g γ h : ℕ} {a b : Symbol} (q : ℕ) → j + k ≤ n → q < 4 → RuleReady G n ends tab g γ h (Push a b)
-      → cell tab (at ends k j h (a .0) (4 + q)) ≤ 4096
+  pub above-at : (k j : ℕ) {g γ h : ℕ} {a b : Symbol} (q : ℕ) → j + k ≤ n → q < 4 → RuleEdgesHold G n ends tab g γ h (Push a b)
+      → cell tab (at ends k j h (a .0) (4 + q)) ≤ cap
       → AtMost (cell tab (at ends k j g γ (4 + q))) (1 + cell tab (at ends k j h (a .0) (4 + q)))
   above-at zero j q e i r v = alone (λ d x. r .plains d (inr x)) q i (omega arith) (omega arith) v
   above-at (suc zero) j q e i r v =
@@ -101,8 +102,8 @@ module _ {G n : ℕ} {ends : ℕ → TurnEnd} (tab : List ℕ) (four : G ≤ 4) 
 
   -- A push whose first symbol goes with i turn ends inside, and whose second goes on with k.
   pub both-at : (i k j m : ℕ) {g γ h : ℕ} {a b : Symbol} (q d : ℕ) → j + i ≡ m → m + k ≤ n → q < G → d < 8
-      → RuleReady G n ends tab g γ h (Push a b)
-      → cell tab (at ends i j h (a .0) q) ≤ 4096 → cell tab (at ends k m q (b .0) d) ≤ 4096
+      → RuleEdgesHold G n ends tab g γ h (Push a b)
+      → cell tab (at ends i j h (a .0) q) ≤ cap → cell tab (at ends k m q (b .0) d) ≤ cap
       → AtMost (cell tab (at ends (i + k) j g γ d)) (1 + cell tab (at ends i j h (a .0) q) + cell tab (at ends k m q (b .0) d))
   both-at zero zero j m q d e o p s r u v =
       in-row (λ x y. r .plains x (inl (record { i = q; inside = p; at = y }))) d s (omega arith) (omega arith) u v
@@ -144,9 +145,9 @@ module _ {G n : ℕ} {ends : ℕ → TurnEnd} (tab : List ℕ) (four : G ≤ 4) 
 
   -- A turn end before k others.
   change-at : (k j : ℕ) (γ d : ℕ) → j + suc k ≤ n → γ ≤ 16 → d < 8
-      → (1 ≤ n → (e : Edge) → FirstEnds G e → Holds tab e)
-      → (2 ≤ n → (e : Edge) → SecondEnds (ends 0 .leave) (ends 0 .enter) e → Holds tab e)
-      → cell tab (at ends k (suc j) (ends j .enter) γ d) ≤ 4096
+      → (1 ≤ n → (e : Edge) → FirstEnds G e → EdgeHolds tab e)
+      → (2 ≤ n → (e : Edge) → SecondEnds (ends 0 .leave) (ends 0 .enter) e → EdgeHolds tab e)
+      → cell tab (at ends k (suc j) (ends j .enter) γ d) ≤ cap
       → AtMost (cell tab (at ends (suc k) j (ends j .leave) γ d)) (cell tab (at ends k (suc j) (ends j .enter) γ d))
   change-at zero j γ d e p s f1 f2 v =
       let i = inside j (omega arith) in
@@ -165,8 +166,8 @@ module _ {G n : ℕ} {ends : ℕ → TurnEnd} (tab : List ℕ) (four : G ≤ 4) 
 
   -- The same between states that are those of the turn end.
   pub changed : (k j : ℕ) (γ d g h : ℕ) → g ≡ ends j .leave → h ≡ ends j .enter → j + suc k ≤ n → γ ≤ 16 → d < 8
-      → (1 ≤ n → (e : Edge) → FirstEnds G e → Holds tab e)
-      → (2 ≤ n → (e : Edge) → SecondEnds (ends 0 .leave) (ends 0 .enter) e → Holds tab e)
-      → cell tab (at ends k (suc j) h γ d) ≤ 4096
+      → (1 ≤ n → (e : Edge) → FirstEnds G e → EdgeHolds tab e)
+      → (2 ≤ n → (e : Edge) → SecondEnds (ends 0 .leave) (ends 0 .enter) e → EdgeHolds tab e)
+      → cell tab (at ends k (suc j) h γ d) ≤ cap
       → AtMost (cell tab (at ends (suc k) j g γ d)) (cell tab (at ends k (suc j) h γ d))
   changed k j γ d g h p q e i s f1 f2 v = rw (p, q) (change-at k j γ d e i s f1 f2 (rw q at v))

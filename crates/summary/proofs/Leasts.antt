@@ -3,7 +3,7 @@ use mathlib.Core.List.{List}
 use mathlib.Core.Path.{_≡_}
 use Prim.Native.Nat.{ℕ, _≤_}
 use native.Mathlib.Omega.{arith}
-use Rattle.summary.specs.Table.{Least}
+use Rattle.summary.specs.Table.{cap, Least}
 
 module _ {S : Type 0} {P : List S → Type 0} where
   -- The same for another kind of runs with the same steps.
@@ -16,7 +16,7 @@ module _ {S : Type 0} {P : List S → Type 0} where
       }
 
   -- Two of the same runs are equal.
-  pub least-once : {x y : ℕ} → Least P x → Least P y → x ≤ 4096 → y ≡ x
+  pub least-once : {x y : ℕ} → Least P x → Least P y → x ≤ cap → y ≡ x
   least-once p q h =
       let u = p .some h in
       let l = q .least (u .1) in

@@ -1,4 +1,5 @@
 pub mod Best
+pub mod CellNumbers
 pub mod Complete
 pub mod Exacts
 pub mod Floors
@@ -7,7 +8,6 @@ pub mod Leasts
 pub mod Loops
 pub mod Meanings
 pub mod Overs
-pub mod Places
 pub mod Ranging
 pub mod Reaches
 pub mod Relaxing

@@ -5,7 +5,7 @@ use Prim.Native.Nat.{ℕ, _+_, _*_, _≤_, _<_}
 use native.Mathlib.Nat.{le-refl, le-trans, le-antisymm, mul-add, mul-one}
 use native.Mathlib.Omega.{arith}
 use lib.ListN.{length}
-use Rattle.summary.specs.Edges.{Edge, cell, Holds, From, kept, Relaxed, Closes, Below}
+use Rattle.summary.specs.Edges.{Edge, cell, EdgeHolds, From, kept, Relaxed, Closes, Below}
 use Rattle.summary.proofs.Relaxing.{onward, loop-start, loop-turn}
 
 -- A loop over a family of edges: the indexes below i are relaxed, with at most so many changes each.
@@ -36,7 +36,7 @@ pub record Closing (W : Edge → Type 0) (old new : List ℕ) (changes : ℕ) : 
   pub size : length new ≡ length old
   pub low : (k : ℕ) → cell new k ≤ cell old k
   pub derived : (k : ℕ) → From W (cell old) k (cell new k)
-  pub done : changes ≡ 0 → (e : Edge) → W e → Holds new e
+  pub done : changes ≡ 0 → (e : Edge) → W e → EdgeHolds new e
 
 pub opens : (W : Edge → Type 0) (t : List ℕ) → Closing W t t 1
 opens W t = record { size = refl; low = λ k. le-refl (cell t k); derived = kept; done = λ h. absurd (omega arith) }

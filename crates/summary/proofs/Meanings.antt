@@ -6,11 +6,12 @@ use native.Mathlib.Nat.{add-zero, le-trans}
 use native.Mathlib.Omega.{arith}
 use Rattle.model.specs.declared.Thread.{Thread}
 use Rattle.summary.specs.Cells.{plain, lane, laneOf, first, second, rest, blank, FirstEnds, SecondEnds}
-use Rattle.summary.specs.Control.{Control, TurnEnd, Moves, Switches, dest, placeOf}
+use Rattle.summary.specs.Control.{Control, TurnEnd, Moves, Switches, dest, cellOf}
 use Rattle.summary.specs.Edges.{Edge, Row}
 use Rattle.summary.specs.Stretch.{endOf, End, pop, stay}
-use Rattle.summary.proofs.Places.{start, width, Offset, lanes-fit, partOf, parts}
-use Rattle.summary.proofs.Places.{first-part, last-part, Alike, alike, blank-cell, blank-dest}
+use Rattle.summary.specs.Table.{cap}
+use Rattle.summary.proofs.CellNumbers.{start, width, Offset, lanes-fit, partOf, parts}
+use Rattle.summary.proofs.CellNumbers.{first-part, last-part, Alike, alike, blank-cell, blank-dest}
 use Rattle.summary.proofs.Reaches.{Reach, here-reach, change-reach}
 
 -- The lane of the last turn end inside, of m after p have passed.
@@ -19,15 +20,15 @@ laneAt ends zero p = 0
 laneAt ends (suc zero) p = laneOf (ends p .leave) (ends p .enter)
 laneAt ends (suc (suc m)) p = laneOf (ends (suc p) .leave) (ends (suc p) .enter)
 
--- A place is its first lane and its lane.
-pub place-lane : (ends : ℕ → TurnEnd) (m : ℕ) (c : Control) (γ d : ℕ)
-    → start m (c .shared) γ d + laneAt ends m (c .passed) ≡ placeOf ends m c γ d
-place-lane ends zero c γ d = add-zero (plain (c .shared) γ d)
-place-lane ends (suc zero) c γ d = refl
-place-lane ends (suc (suc m)) c γ d = refl
+-- A cell is its first lane and its lane.
+pub cell-lane : (ends : ℕ → TurnEnd) (m : ℕ) (c : Control) (γ d : ℕ)
+    → start m (c .shared) γ d + laneAt ends m (c .passed) ≡ cellOf ends m c γ d
+cell-lane ends zero c γ d = add-zero (plain (c .shared) γ d)
+cell-lane ends (suc zero) c γ d = refl
+cell-lane ends (suc (suc m)) c γ d = refl
 
 -- A stretch with m turn ends inside, within the n that there are, from and to states of the table.
-pub record Stands (n m : ℕ) (c : Control) (γ : ℕ) (d : End Control) : Type 0 where
+pub record Passes (n m : ℕ) (c : Control) (γ : ℕ) (d : End Control) : Type 0 where
   pub gap : endOf d .passed ≡ c .passed + m
   pub last : endOf d .passed ≤ n
   pub from : c .shared < 4
@@ -61,19 +62,19 @@ module _ (t : Thread) (turnOf : ℕ → ℕ) (ends : ℕ → TurnEnd) (n : ℕ) 
   -- `Means` by the number of turn ends inside.
   abbrev pub Gives : ℕ → ℕ → Type 0
   Gives k v =
-      (m : ℕ) (c : Control) (γ : ℕ) (d : End Control) → Stands n m c γ d
-      → start m (c .shared) γ (dest d) + laneAt ends m (c .passed) ≡ k → v ≤ 4096 → Reached c γ d v
+      (m : ℕ) (c : Control) (γ : ℕ) (d : End Control) → Passes n m c γ d
+      → start m (c .shared) γ (dest d) + laneAt ends m (c .passed) ≡ k → v ≤ cap → Reached c γ d v
 
   -- An edge gives what its parts give.
   abbrev pub Good : Edge → Type 0
-  Good e = (x y : ℕ) → x ≤ 4096 → y ≤ 4096 → Gives (e .a) x → Gives (e .b) y → Gives (e .k) (min (e .w + x + y) 4096)
+  Good e = (x y : ℕ) → x ≤ cap → y ≤ cap → Gives (e .a) x → Gives (e .b) y → Gives (e .to) (min (e .w + x + y) cap)
 
-  -- What a row of edges has to give, once the place is known.
+  -- What a row of edges has to give, once the cell is known.
   abbrev pub Makes : ℕ → ℕ → ℕ → ℕ → ℕ → ℕ → ℕ → ℕ → Type 0
   Makes m g γ d w a b size =
-      (x y z : ℕ) → z < size → x ≤ 4096 → y ≤ 4096 → Gives a x → Gives (b + z) y
-      → (c : Control) (γ₀ : ℕ) (u : End Control) → Stands n m c γ₀ u
-      → Alike m (c .shared) γ₀ (dest u) (laneAt ends m (c .passed)) g γ d z → Reached c γ₀ u (min (w + x + y) 4096)
+      (x y z : ℕ) → z < size → x ≤ cap → y ≤ cap → Gives a x → Gives (b + z) y
+      → (c : Control) (γ₀ : ℕ) (u : End Control) → Passes n m c γ₀ u
+      → Alike m (c .shared) γ₀ (dest u) (laneAt ends m (c .passed)) g γ d z → Reached c γ₀ u (min (w + x + y) cap)
 
 module _ (t : Thread) (turnOf : ℕ → ℕ) (ends : ℕ → TurnEnd) (n : ℕ) (n2 : n ≤ 2)
     (small : (j : ℕ) → j < n → (ends j .leave < 4) × (ends j .enter < 4)) where
@@ -83,8 +84,8 @@ module _ (t : Thread) (turnOf : ℕ → ℕ) (ends : ℕ → TurnEnd) (n : ℕ) 
   lane-lt (suc zero) p h = omega (arith, small p (omega arith))
   lane-lt (suc (suc m)) p h = omega (arith, small (suc p) (omega arith))
 
-  -- The place of a stretch.
-  spans : (m : ℕ) (c : Control) (γ : ℕ) (d : End Control) → Stands n m c γ d
+  -- The cell of a stretch.
+  spans : (m : ℕ) (c : Control) (γ : ℕ) (d : End Control) → Passes n m c γ d
       → Offset m (c .shared) γ (dest d) (laneAt ends m (c .passed))
   spans m c γ d s =
       let p = dest-lt d (omega arith) in
@@ -92,28 +93,28 @@ module _ (t : Thread) (turnOf : ℕ → ℕ) (ends : ℕ → TurnEnd) (n : ℕ) 
 
   -- A cell of a known part has stretches with that many turn ends inside.
   settle : (m k v : ℕ) → partOf k ≡ m
-      → ((c : Control) (γ : ℕ) (d : End Control) → Stands n m c γ d → start m (c .shared) γ (dest d) + laneAt ends m (c .passed) ≡ k → v ≤ 4096 → Reached t turnOf ends n c γ d v)
+      → ((c : Control) (γ : ℕ) (d : End Control) → Passes n m c γ d → start m (c .shared) γ (dest d) + laneAt ends m (c .passed) ≡ k → v ≤ cap → Reached t turnOf ends n c γ d v)
       → Gives t turnOf ends n k v
   settle m k v h f m′ c γ d s e =
       let same : m ≡ m′ = sym h ∙ ap partOf (sym e) ∙ parts m′ (c .shared) γ (dest d) (laneAt ends m′ (c .passed)) (spans m′ c γ d s) in
-      subst (λ m. Stands n m c γ d → start m (c .shared) γ (dest d) + laneAt ends m (c .passed) ≡ k → v ≤ 4096 → Reached t turnOf ends n c γ d v) same (f c γ d) s e
+      subst (λ m. Passes n m c γ d → start m (c .shared) γ (dest d) + laneAt ends m (c .passed) ≡ k → v ≤ cap → Reached t turnOf ends n c γ d v) same (f c γ d) s e
 
-  -- A cell at an offset of a known place has stretches from that state and symbol.
+  -- A cell at an offset of a known cell has stretches from that state and symbol.
   found : (m g γ d x v : ℕ) → partOf (start m g γ d + x) ≡ m → (m ≤ n → Offset m g γ d x)
-      → ((c : Control) (γ₀ : ℕ) (u : End Control) → Stands n m c γ₀ u
+      → ((c : Control) (γ₀ : ℕ) (u : End Control) → Passes n m c γ₀ u
       → Alike m (c .shared) γ₀ (dest u) (laneAt ends m (c .passed)) g γ d x → Reached t turnOf ends n c γ₀ u v)
       → Gives t turnOf ends n (start m g γ d + x) v
   found m g γ d x v p h f =
       settle m (start m g γ d + x) v p
       (λ c γ₀ u s e i. f c γ₀ u s (alike m (c .shared) γ₀ (dest u) (laneAt ends m (c .passed)) g γ d x (spans m c γ₀ u s) (lane-lt m (c .passed) (omega arith)) (h (omega arith)) e))
 
-  -- A row of edges at a known place.
+  -- A row of edges at a known cell.
   pub rows : (m g γ d w a b size : ℕ) → ((z : ℕ) → z < size → (partOf (start m g γ d + z) ≡ m) × (m ≤ n → Offset m g γ d z))
       → Makes t turnOf ends n m g γ d w a b size → (e : Edge) → Row w (start m g γ d) a b size e → Good t turnOf ends n e
   rows m g γ d w a b size h f e row =
       let z = row .x in
       let k = row .inside in
-      subst (Good t turnOf ends n) (sym (row .is)) (λ x y i j p q. found m g γ d z (min (w + x + y) 4096) (h z k .0) (h z k .1) (f x y z k i j p q))
+      subst (Good t turnOf ends n) (sym (row .is)) (λ x y i j p q. found m g γ d z (min (w + x + y) cap) (h z k .0) (h z k .1) (f x y z k i j p q))
 
   -- The blank table: staying in place.
   pub blank-gives : (k : ℕ) → Gives t turnOf ends n k (blank k)
@@ -127,9 +128,9 @@ module _ (t : Thread) (turnOf : ℕ → ℕ) (ends : ℕ → TurnEnd) (n : ℕ) 
       m c γ d s e h
 
   -- A change of turn.
-  switch : (c : Control) (γ : ℕ) (u : End Control) (m i y : ℕ) → Stands n (suc m) c γ u → c .shared ≡ ends (c .passed) .leave
-      → i ≡ ends (c .passed) .enter → i < 4 → (k : ℕ) → Gives t turnOf ends n k y → y ≤ 4096
-      → start m i γ (dest u) + laneAt ends m (suc (c .passed)) ≡ k → (v : ℕ) → min y 4096 ≤ v → Reached t turnOf ends n c γ u v
+  switch : (c : Control) (γ : ℕ) (u : End Control) (m i y : ℕ) → Passes n (suc m) c γ u → c .shared ≡ ends (c .passed) .leave
+      → i ≡ ends (c .passed) .enter → i < 4 → (k : ℕ) → Gives t turnOf ends n k y → y ≤ cap
+      → start m i γ (dest u) + laneAt ends m (suc (c .passed)) ≡ k → (v : ℕ) → min y cap ≤ v → Reached t turnOf ends n c γ u v
   switch c γ u m i y s p q h k f l e v o =
       let c₁ : Control = record { passed = suc (c .passed); shared = i } in
       change-reach (Moves t turnOf) (Switches ends n) {c₁ = c₁} v o
@@ -145,7 +146,7 @@ module _ (t : Thread) (turnOf : ℕ → ℕ) (ends : ℕ → TurnEnd) (n : ℕ) 
       let d = b .at .at .at .i in
       let row = b .at .at .at .at in
       let z : row .x ≡ 0 = omega (arith, row .inside) in
-      let place : Offset 1 o γ d (laneOf o i) =
+      let spot : Offset 1 o γ d (laneOf o i) =
       record {
         part = omega arith;
         state = omega (arith, b .inside);
@@ -156,13 +157,13 @@ module _ (t : Thread) (turnOf : ℕ → ℕ) (ends : ℕ → TurnEnd) (n : ℕ) 
       let at : start 1 o γ d + laneOf o i ≡ lane first o γ d + laneOf o i + row .x = omega arith in
       subst (Good t turnOf ends n) (sym (row .is))
       (λ x y k j f g.
-      subst (λ k. Gives t turnOf ends n k (min (0 + x + y) 4096)) at
-      (found 1 o γ d (laneOf o i) (min (0 + x + y) 4096) (parts 1 o γ d (laneOf o i) place) (λ h. place)
+      subst (λ k. Gives t turnOf ends n k (min (0 + x + y) cap)) at
+      (found 1 o γ d (laneOf o i) (min (0 + x + y) cap) (parts 1 o γ d (laneOf o i) spot) (λ h. spot)
       (λ c γ₀ u s w.
       let ends-small = small (c .passed) (omega arith) in
       let both = w .narrow (omega (arith, b .inside, b .at .inside)) in
       switch c γ₀ u 0 i y s (omega (arith, b .inside, b .at .inside)) (omega (arith, b .inside, b .at .inside)) (omega (arith, b .at .inside)) (plain i γ d + row .x) g j (omega arith)
-      (min (0 + x + y) 4096) (omega arith))))
+      (min (0 + x + y) cap) (omega arith))))
 
   -- The edges of a turn end before another.
   pub second-good : (e : Edge) → SecondEnds (ends 0 .leave) (ends 0 .enter) e → Good t turnOf ends n e
@@ -176,5 +177,5 @@ module _ (t : Thread) (turnOf : ℕ → ℕ) (ends : ℕ → TurnEnd) (n : ℕ) 
       (λ x y z k i j f g c γ₀ u s w.
       let p : 0 ≡ c .passed = omega arith in
       switch c γ₀ u 1 (ends 0 .enter) y s (w .state ∙ ap (λ p. ends p .leave) p) (ap (λ p. ends p .enter) p) (small 0 (omega arith) .1)
-      (lane first (ends 0 .enter) γ 0 + z) g j (omega (arith, w .same (ends 0 .enter) γ)) (min (0 + x + y) 4096) (omega arith))
+      (lane first (ends 0 .enter) γ 0 + z) g j (omega (arith, w .same (ends 0 .enter) γ)) (min (0 + x + y) cap) (omega arith))
       e (b .at)

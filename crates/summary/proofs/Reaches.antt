@@ -7,12 +7,12 @@ use Rattle.model.specs.declared.Right.{Right}
 use Rattle.model.specs.declared.Right.the-variants.{Remove, Swap, Push}
 use Rattle.model.specs.declared.Symbol.{Symbol}
 use Rattle.summary.specs.Stretch.{End, pop, stay, Stretch}
-use Rattle.summary.specs.Table.{Uses}
+use Rattle.summary.specs.Table.{cap, Uses}
 
 module _ {C S : Type 0} (Move : C → ℕ → S → Right → C → Type 0) (Switch : C → C → Type 0) where
-  -- There is a stretch of at most v steps; 4,096 is for any number.
+  -- There is a stretch of at most v steps; the cap is for any number.
   abbrev pub Reach : C → ℕ → End C → ℕ → Type 0
-  Reach c γ d v = (us : List S) × Uses Move Switch c γ d us × (min (length us) 4096 ≤ v)
+  Reach c γ d v = (us : List S) × Uses Move Switch c γ d us × (min (length us) cap ≤ v)
 
   -- Staying takes no step.
   pub here-reach : (c : C) (γ v : ℕ) → Reach c γ (stay c) v
@@ -23,12 +23,12 @@ module _ {C S : Type 0} (Move : C → ℕ → S → Right → C → Type 0) (Swi
   remove-reach {s = s} v h m = (s ∷ [], λ rest. Stretch.remove m, omega arith)
 
   -- A rule that swaps the symbol.
-  pub swap-reach : {c c₁ : C} {γ : ℕ} {s : S} {a : Symbol} {d : End C} {y : ℕ} (v : ℕ) → min (1 + y) 4096 ≤ v
+  pub swap-reach : {c c₁ : C} {γ : ℕ} {s : S} {a : Symbol} {d : End C} {y : ℕ} (v : ℕ) → min (1 + y) cap ≤ v
       → Move c γ s (Swap a) c₁ → Reach c₁ (a .0) d y → Reach c γ d v
   swap-reach {s = s} v h m r = (s ∷ r .0, λ rest. Stretch.swap m (r .1 rest), omega (arith, r .2))
 
   -- A rule that pushes, where both symbols come to their turn.
-  pub both-reach : {c c₁ q : C} {γ : ℕ} {s : S} {a b : Symbol} {d : End C} {x y : ℕ} (v : ℕ) → min (1 + x + y) 4096 ≤ v
+  pub both-reach : {c c₁ q : C} {γ : ℕ} {s : S} {a b : Symbol} {d : End C} {x y : ℕ} (v : ℕ) → min (1 + x + y) cap ≤ v
       → Move c γ s (Push a b) c₁ → Reach c₁ (a .0) (pop q) x → Reach q (b .0) d y
       → Reach c γ d v
   both-reach {c₁ = c₁} {q = q} {s = s} {a = a} v h m r t =
@@ -38,11 +38,11 @@ module _ {C S : Type 0} (Move : C → ℕ → S → Right → C → Type 0) (Swi
       (s ∷ (us ++ ws), λ rest. Stretch.both m (one rest) (t .1 rest), omega (arith, r .2, t .2, length-append us ws))
 
   -- A rule that pushes, where the first symbol stays.
-  pub above-reach : {c c₁ q : C} {γ : ℕ} {s : S} {a b : Symbol} {y : ℕ} (v : ℕ) → min (1 + y) 4096 ≤ v
+  pub above-reach : {c c₁ q : C} {γ : ℕ} {s : S} {a b : Symbol} {y : ℕ} (v : ℕ) → min (1 + y) cap ≤ v
       → Move c γ s (Push a b) c₁ → Reach c₁ (a .0) (stay q) y → Reach c γ (stay q) v
   above-reach {s = s} v h m r = (s ∷ r .0, λ rest. Stretch.above m (r .1 rest), omega (arith, r .2))
 
   -- A change of control.
-  pub change-reach : {c c₁ : C} {γ : ℕ} {d : End C} {y : ℕ} (v : ℕ) → min y 4096 ≤ v
+  pub change-reach : {c c₁ : C} {γ : ℕ} {d : End C} {y : ℕ} (v : ℕ) → min y cap ≤ v
       → Switch c c₁ → Reach c₁ γ d y → Reach c γ d v
   change-reach v h s r = (r .0, λ rest. Stretch.change s (r .1 rest), omega (arith, r .2))

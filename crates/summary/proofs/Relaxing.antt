@@ -9,10 +9,11 @@ use native.Mathlib.Decide.{ℕ-discrete, decLe, decLt}
 use borrow.Author.Tests.{le-leb, lt-leb, le-ltb, lt-ltb}
 use lib.ListN.{length, getD, set, length-set}
 use lib.Seq.{getD-set-same, getD-set-other, set-getD}
-use Rattle.summary.specs.Edges.{Edge, cell, bestOf, Holds, From, kept, by, sum, less, Relaxed, Below}
+use Rattle.summary.specs.Edges.{Edge, cell, bestOf, EdgeHolds, From, kept, by, sum, less, Relaxed, Below, NoEdge}
+use Rattle.summary.specs.Table.{cap}
 
 -- A table in which the edges hold is not changed.
-pub settled : {P : Edge → Type 0} (t : List ℕ) → ((e : Edge) → P e → Holds t e) → Relaxed P t t 0
+pub settled : {P : Edge → Type 0} (t : List ℕ) → ((e : Edge) → P e → EdgeHolds t e) → Relaxed P t t 0
 settled t h =
     record {
       size = refl;
@@ -22,6 +23,10 @@ settled t h =
       derived = kept;
       closed = λ e w p q. h e w;
     }
+
+-- No edge changes nothing.
+pub unchanged : (t : List ℕ) → Relaxed NoEdge t t 0
+unchanged t = settled t (λ e i. absurd i)
 
 -- More edges derive no less.
 pub wider : {P Q : Edge → Type 0} {t : ℕ → ℕ} → ((e : Edge) → P e → Q e) → {k x : ℕ} → From P t k x → From Q t k x
@@ -35,11 +40,11 @@ onward h (by e w p q i j) = by e w (onward h p) (onward h q) i j
 
 -- An edge that holds still holds where its cell has fallen and its parts have not.
 pub still : {t u : List ℕ} {e : Edge} → ((k : ℕ) → cell u k ≤ cell t k) → cell u (e .a) ≡ cell t (e .a)
-    → cell u (e .b) ≡ cell t (e .b) → Holds t e → Holds u e
+    → cell u (e .b) ≡ cell t (e .b) → EdgeHolds t e → EdgeHolds u e
 still {t} {u} {e} low p q h =
     record {
-      reached = λ x y. le-trans (low (e .k)) (h .reached (rw p at x) (rw q at y));
-      most = λ x y. rw (p, q) (le-trans (low (e .k)) (h .most (rw p at x) (rw q at y)));
+      reached = λ x y. le-trans (low (e .to)) (h .reached (rw p at x) (rw q at y));
+      most = λ x y. rw (p, q) (le-trans (low (e .to)) (h .most (rw p at x) (rw q at y)));
     }
 
 -- One relaxation after another.
@@ -55,7 +60,7 @@ then {P} {Q} {t} {u} {v} {i} {j} f g =
       closed = closed;
     }
   where
-    closed : (e : Edge) → P e ⊎ Q e → cell v (e .a) ≡ cell t (e .a) → cell v (e .b) ≡ cell t (e .b) → Holds v e
+    closed : (e : Edge) → P e ⊎ Q e → cell v (e .a) ≡ cell t (e .a) → cell v (e .b) ≡ cell t (e .b) → EdgeHolds v e
     closed e (inl x) p q =
         let a : cell u (e .a) ≡ cell t (e .a) = omega (arith, f .low (e .a), g .low (e .a)) in
         let b : cell u (e .b) ≡ cell t (e .b) = omega (arith, f .low (e .b), g .low (e .b)) in
@@ -97,24 +102,24 @@ stored l k v h P p q i =
 -- was or what they offer.
 pub record Better (w x y old new : ℕ) : Type 0 where
   pub low : new ≤ old
-  pub most : x ≤ 4096 → y ≤ 4096 → (new ≤ 4096) × (new ≤ w + x + y)
-  pub which : (new ≡ old) ⊎ ((x ≤ 4096) × (y ≤ 4096) × (new ≡ min (w + x + y) 4096))
+  pub most : x ≤ cap → y ≤ cap → (new ≤ cap) × (new ≤ w + x + y)
+  pub which : (new ≡ old) ⊎ ((x ≤ cap) × (y ≤ cap) × (new ≡ min (w + x + y) cap))
 
 pub better : (w x y old : ℕ) → Better w x y old (bestOf w x y old)
 unfolding bestOf
 better w x y old =
-    elim (decLe x 4096) [
-      | yes i ↦ elim (decLe y 4096) [
-        | yes j ↦ rw (le-leb x 4096 i, le-leb y 4096 j)
+    elim (decLe x cap) [
+      | yes i ↦ elim (decLe y cap) [
+        | yes j ↦ rw (le-leb x cap i, le-leb y cap j)
             (record {
               low = omega arith;
               most = λ p q. (omega arith, omega arith);
-              which = elim (decLe old (min (w + x + y) 4096)) [ yes h ↦ inl (omega arith) | no h ↦ inr (i, j, omega arith) ];
+              which = elim (decLe old (min (w + x + y) cap)) [ yes h ↦ inl (omega arith) | no h ↦ inr (i, j, omega arith) ];
             })
-        | no j ↦ rw (le-leb x 4096 i, lt-leb y 4096 (omega arith))
+        | no j ↦ rw (le-leb x cap i, lt-leb y cap (omega arith))
             (record { low = le-refl old; most = λ p q. absurd (j q); which = inl refl })
       ]
-      | no i ↦ rw (lt-leb x 4096 (omega arith)) (record { low = le-refl old; most = λ p q. absurd (i p); which = inl refl })
+      | no i ↦ rw (lt-leb x cap (omega arith)) (record { low = le-refl old; most = λ p q. absurd (i p); which = inl refl })
     ]
 
 -- A change is counted exactly if there is one.
@@ -126,57 +131,57 @@ counted new old h =
     ]
 
 -- One edge more. Its parts may have been read at any time since the start: their counts lie between those then and now.
-module _ {P : Edge → Type 0} {t u : List ℕ} {i : ℕ} (f : Relaxed P t u i) (e : Edge) (h : e .k < length u) {x y : ℕ}
+module _ {P : Edge → Type 0} {t u : List ℕ} {i : ℕ} (f : Relaxed P t u i) (e : Edge) (h : e .to < length u) {x y : ℕ}
     (a : From (λ d. P d ⊎ (d ≡ e)) (cell t) (e .a) x) (b : From (λ d. P d ⊎ (d ≡ e)) (cell t) (e .b) y)
     (xt : x ≤ cell t (e .a)) (ux : cell u (e .a) ≤ x) (yt : y ≤ cell t (e .b)) (uy : cell u (e .b) ≤ y)
-    (new : ℕ) (n : new ≡ bestOf (e .w) x y (cell u (e .k))) where
+    (new : ℕ) (n : new ≡ bestOf (e .w) x y (cell u (e .to))) where
   -- The stored count.
-  best : Better (e .w) x y (cell u (e .k)) new
-  best = rw n (better (e .w) x y (cell u (e .k)))
+  best : Better (e .w) x y (cell u (e .to)) new
+  best = rw n (better (e .w) x y (cell u (e .to)))
 
   -- The table after the store is nowhere above the one before.
-  fall : (k : ℕ) → cell (set u (e .k) new) k ≤ cell u k
-  fall = stored u (e .k) new h (λ k v. v ≤ cell u k) (best .low) (λ k. le-refl (cell u k))
+  fall : (k : ℕ) → cell (set u (e .to) new) k ≤ cell u k
+  fall = stored u (e .to) new h (λ k v. v ≤ cell u k) (best .low) (λ k. le-refl (cell u k))
 
   -- The edge itself holds where its parts are as they were.
-  own : cell (set u (e .k) new) (e .a) ≡ cell t (e .a) → cell (set u (e .k) new) (e .b) ≡ cell t (e .b)
-      → Holds (set u (e .k) new) e
+  own : cell (set u (e .to) new) (e .a) ≡ cell t (e .a) → cell (set u (e .to) new) (e .b) ≡ cell t (e .b)
+      → EdgeHolds (set u (e .to) new) e
   own p q =
       let xa : x ≡ cell t (e .a) = omega (arith, fall (e .a)) in
       let yb : y ≡ cell t (e .b) = omega (arith, fall (e .b)) in
-      let v : cell (set u (e .k) new) (e .k) ≡ new = getD-set-same u (e .k) new 0 h in
+      let v : cell (set u (e .to) new) (e .to) ≡ new = getD-set-same u (e .to) new 0 h in
       record {
         reached = λ i j. omega (arith, best .most (omega arith) (omega arith) .0);
         most = λ i j. omega (arith, best .most (omega arith) (omega arith) .1);
       }
 
-  pub one : Relaxed (λ d. P d ⊎ (d ≡ e)) t (set u (e .k) new) (i + less new (cell u (e .k)))
+  pub one : Relaxed (λ d. P d ⊎ (d ≡ e)) t (set u (e .to) new) (i + less new (cell u (e .to)))
   one =
-      let less-old = counted new (cell u (e .k)) (best .low) in
+      let less-old = counted new (cell u (e .to)) (best .low) in
       record {
-        size = length-set u (e .k) new ∙ f .size;
-        falls = omega (arith, sum-set u (e .k) new h, f .falls, less-old .0);
+        size = length-set u (e .to) new ∙ f .size;
+        falls = omega (arith, sum-set u (e .to) new h, f .falls, less-old .0);
         low = λ k. le-trans (fall k) (f .low k);
-        same = λ z. rw (less-old .1 (omega arith), set-getD u (e .k) 0) (f .same (omega arith));
-        derived = stored u (e .k) new h (λ k v. From (λ d. P d ⊎ (d ≡ e)) (cell t) k v) made (λ k. wider (λ d. inl) (f .derived k));
+        same = λ z. rw (less-old .1 (omega arith), set-getD u (e .to) 0) (f .same (omega arith));
+        derived = stored u (e .to) new h (λ k v. From (λ d. P d ⊎ (d ≡ e)) (cell t) k v) made (λ k. wider (λ d. inl) (f .derived k));
         closed = closed;
       }
     where
-      made : From (λ d. P d ⊎ (d ≡ e)) (cell t) (e .k) new
+      made : From (λ d. P d ⊎ (d ≡ e)) (cell t) (e .to) new
       made =
           ⊎-elim
-          (λ o. subst (λ v. From (λ d. P d ⊎ (d ≡ e)) (cell t) (e .k) v) (sym o) (wider (λ d. inl) (f .derived (e .k))))
-          (λ o. subst (λ v. From (λ d. P d ⊎ (d ≡ e)) (cell t) (e .k) v) (sym (o .2)) (by e (inr refl) a b (o .0) (o .1)))
+          (λ o. subst (λ v. From (λ d. P d ⊎ (d ≡ e)) (cell t) (e .to) v) (sym o) (wider (λ d. inl) (f .derived (e .to))))
+          (λ o. subst (λ v. From (λ d. P d ⊎ (d ≡ e)) (cell t) (e .to) v) (sym (o .2)) (by e (inr refl) a b (o .0) (o .1)))
           (best .which)
 
-      closed : (d : Edge) → P d ⊎ (d ≡ e) → cell (set u (e .k) new) (d .a) ≡ cell t (d .a)
-          → cell (set u (e .k) new) (d .b) ≡ cell t (d .b) → Holds (set u (e .k) new) d
+      closed : (d : Edge) → P d ⊎ (d ≡ e) → cell (set u (e .to) new) (d .a) ≡ cell t (d .a)
+          → cell (set u (e .to) new) (d .b) ≡ cell t (d .b) → EdgeHolds (set u (e .to) new) d
       closed d (inl o) p q =
           let pa : cell u (d .a) ≡ cell t (d .a) = omega (arith, fall (d .a), f .low (d .a)) in
           let qb : cell u (d .b) ≡ cell t (d .b) = omega (arith, fall (d .b), f .low (d .b)) in
           still fall (p ∙ sym pa) (q ∙ sym qb) (f .closed d o pa qb)
       closed d (inr o) p q =
-          subst (λ d. cell (set u (e .k) new) (d .a) ≡ cell t (d .a) → cell (set u (e .k) new) (d .b) ≡ cell t (d .b) → Holds (set u (e .k) new) d)
+          subst (λ d. cell (set u (e .to) new) (d .a) ≡ cell t (d .a) → cell (set u (e .to) new) (d .b) ≡ cell t (d .b) → EdgeHolds (set u (e .to) new) d)
           (sym o) own p q
 
 -- A loop over a family of edges: none yet, and one index more.

@@ -9,37 +9,38 @@ use native.Mathlib.Nat.{le-refl}
 use native.Mathlib.Decide.{decLt}
 use native.Mathlib.Omega.{arith}
 use lib.ListN.{length, set}
-use Rattle.summary.specs.Edges.{Edge, cell, bestOf, Holds, kept, less, Relaxed, Row}
+use Rattle.summary.specs.Edges.{Edge, cell, bestOf, EdgeHolds, kept, less, Relaxed, Row}
+use Rattle.summary.specs.Table.{cap}
 use Rattle.summary.proofs.Relaxing.{wider, with, one, settled}
 
 -- A part that is reached may be counted into the weight.
-best-in : (w x y old : ℕ) → x ≤ 4096 → bestOf (w + x) 0 y old ≡ bestOf w x y old
+best-in : (w x y old : ℕ) → x ≤ cap → bestOf (w + x) 0 y old ≡ bestOf w x y old
 unfolding bestOf
-best-in w x y old h = rw (le-leb x 4096 h, add-zero)
+best-in w x y old h = rw (le-leb x cap h, add-zero)
 
 -- The rows of d and d + 1 edges differ by one.
-row-more : (w k a b d : ℕ) (e : Edge) → (Row w k a b d e ⊎ (e ≡ record { w = w; k = k + d; a = a; b = b + d }))
+row-more : (w k a b d : ℕ) (e : Edge) → (Row w k a b d e ⊎ (e ≡ record { w = w; to = k + d; a = a; b = b + d }))
     → Row w k a b (d + 1) e
 row-more w k a b d e (inl r) = record { x = r .x; inside = omega (arith, r .inside); is = r .is }
 row-more w k a b d e (inr r) = record { x = d; inside = omega arith; is = r }
 
 row-less : (w k a b d : ℕ) (e : Edge) → Row w k a b (d + 1) e
-    → Row w k a b d e ⊎ (e ≡ record { w = w; k = k + d; a = a; b = b + d })
+    → Row w k a b d e ⊎ (e ≡ record { w = w; to = k + d; a = a; b = b + d })
 row-less w k a b d e r =
     elim (decLt (r .x) d) [
       | yes h ↦ inl (record { x = r .x; inside = h; is = r .is })
       | no n ↦
           let same : r .x ≡ d = omega (arith, r .inside) in
-          inr (subst (λ x. e ≡ record { w = w; k = k + x; a = a; b = b + x }) same (r .is))
+          inr (subst (λ x. e ≡ record { w = w; to = k + x; a = a; b = b + x }) same (r .is))
     ]
 
 -- One edge more of a row.
-pub row-turn : {w k a b d : ℕ} {t u : List ℕ} {i : ℕ} → Relaxed (Row w k a b d) t u i → cell t a ≤ 4096 → k + d < length u
+pub row-turn : {w k a b d : ℕ} {t u : List ℕ} {i : ℕ} → Relaxed (Row w k a b d) t u i → cell t a ≤ cap → k + d < length u
     → (new : ℕ) → new ≡ bestOf (w + cell t a) 0 (cell u (b + d)) (cell u (k + d))
     → Relaxed (Row w k a b (d + 1)) t (set u (k + d) new) (i + less new (cell u (k + d)))
 row-turn {w} {k} {a} {b} {d} {t} {u} {i} f h room new n =
     with (row-more w k a b d) (row-less w k a b d)
-    (one f (record { w = w; k = k + d; a = a; b = b + d }) room (kept a) (wider (λ e. inl) (f .derived (b + d)))
+    (one f (record { w = w; to = k + d; a = a; b = b + d }) room (kept a) (wider (λ e. inl) (f .derived (b + d)))
     (le-refl (cell t a)) (f .low a) (f .low (b + d)) (le-refl (cell u (b + d))) new (n ∙ best-in w (cell t a) (cell u (b + d)) (cell u (k + d)) h))
 
 -- A row of no edges.
@@ -47,6 +48,6 @@ pub row-start : (w k a b : ℕ) (t : List ℕ) → Relaxed (Row w k a b 0) t t 0
 row-start w k a b t = settled t (λ e r. absurd (omega (arith, r .inside)))
 
 -- A row whose fixed part is not reached holds as it is.
-pub row-idle : (w k a b n : ℕ) (t : List ℕ) → 4096 < cell t a → Relaxed (Row w k a b n) t t 0
+pub row-idle : (w k a b n : ℕ) (t : List ℕ) → cap < cell t a → Relaxed (Row w k a b n) t t 0
 row-idle w k a b n t h =
-    settled t (λ e r. subst (Holds t) (sym (r .is)) (record { reached = λ i j. absurd (omega arith); most = λ i j. absurd (omega arith) }))
+    settled t (λ e r. subst (EdgeHolds t) (sym (r .is)) (record { reached = λ i j. absurd (omega arith); most = λ i j. absurd (omega arith) }))

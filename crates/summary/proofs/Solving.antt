@@ -6,13 +6,13 @@ use Prim.Native.Nat.{ℕ, _≤_, _<_}
 use native.Mathlib.Nat.{le-trans}
 use native.Mathlib.Decide.{decLt}
 use native.Mathlib.Omega.{arith}
-use Rattle.summary.specs.Edges.{Edge, cell, Holds, From, kept, by, Relaxed, Closes}
+use Rattle.summary.specs.Edges.{Edge, cell, EdgeHolds, From, kept, by, Relaxed, Closes}
 use Rattle.summary.specs.Cells.{blank, Reset, Solved}
 use Rattle.summary.proofs.Relaxing.{wider, still}
 use Rattle.summary.proofs.Spans.{Span}
 
 -- A cell that no edge leads to is as it was.
-pub unled : {P : Edge → Type 0} {t : ℕ → ℕ} {k v : ℕ} → ((e : Edge) → P e → e .k ≡ k → ⊥) → From P t k v → v ≡ t k
+pub unled : {P : Edge → Type 0} {t : ℕ → ℕ} {k v : ℕ} → ((e : Edge) → P e → e .to ≡ k → ⊥) → From P t k v → v ≡ t k
 unled h (kept k) = refl
 unled h (by e p a b i j) = absurd (h e p refl)
 
@@ -25,8 +25,8 @@ inward bound parts sub start h (by e p a b i j) =
     by e (sub e p) (inward bound parts sub start (parts e p .0) a) (inward bound parts sub start (parts e p .1) b) i j
 
 -- An edge holds where its cells are as in a table in which it holds.
-moved : {t u : List ℕ} {e : Edge} → cell u (e .k) ≡ cell t (e .k) → cell u (e .a) ≡ cell t (e .a)
-    → cell u (e .b) ≡ cell t (e .b) → Holds t e → Holds u e
+moved : {t u : List ℕ} {e : Edge} → cell u (e .to) ≡ cell t (e .to) → cell u (e .a) ≡ cell t (e .a)
+    → cell u (e .b) ≡ cell t (e .b) → EdgeHolds t e → EdgeHolds u e
 moved k a b h = record { reached = rw (k, a, b) (h .reached); most = rw (k, a, b) (h .most) }
 
 -- The same cells, solved for a set with the same edges.
@@ -62,10 +62,10 @@ module _ {S O W : Edge → Type 0} {low high end : ℕ} {t u v z : List ℕ} {ch
   same : (k : ℕ) → k < low → cell z k ≡ cell t k
   same k h = kept-own k h ∙ kept-once k h ∙ r .below k h
 
-  held : (e : Edge) → S e → Holds z e
+  held : (e : Edge) → S e → EdgeHolds z e
   held e w =
       let p = spans e w in
-      moved (same (e .k) (p .to)) (same (e .a) (p .a)) (same (e .b) (p .b)) (s .closed e w)
+      moved (same (e .to) (p .to)) (same (e .a) (p .a)) (same (e .b) (p .b)) (s .closed e w)
 
   solved-still : Solved S low z
   solved-still =
@@ -99,7 +99,7 @@ module _ {S O W : Edge → Type 0} {low high end : ℕ} {t u v z : List ℕ} {ch
             | no n ↦ rw (r .inside k (omega arith) (omega arith)) at (le-trans (c .low k) (f .low k))
           ]
 
-      closed : (e : Edge) → S e ⊎ (O e ⊎ W e) → Holds z e
+      closed : (e : Edge) → S e ⊎ (O e ⊎ W e) → EdgeHolds z e
       closed e (inl w) = held e w
       closed e (inr (inl o)) =
           let p = once e o in

@@ -15,13 +15,13 @@ use Rattle.model.specs.Walk.{Step}
 use Rattle.model.proofs.Inside.{applies-iff}
 use Rattle.model.specs.Fits.{RightFits, ThreadFits}
 use Rattle.summary.specs.Cells.{plain, lane, laneOf, first, second, rest, blank, plainBy, laneBy, crossBy, Second}
-use Rattle.summary.specs.Control.{Control, TurnEnd, Moves, Switches, dest, placeOf}
+use Rattle.summary.specs.Control.{Control, TurnEnd, Moves, Switches, dest, cellOf}
 use Rattle.summary.specs.Edges.{Edge, From, kept, by, Row}
 use Rattle.summary.specs.Stretch.{endOf, End, pop, stay}
-use Rattle.summary.specs.Table.{Uses}
-use Rattle.summary.proofs.Places.{start, width, baseOf, Offset, lanes-fit, parts}
+use Rattle.summary.specs.Table.{cap, Uses}
+use Rattle.summary.proofs.CellNumbers.{start, width, baseOf, Offset, lanes-fit, parts}
 use Rattle.summary.proofs.Reaches.{remove-reach, swap-reach, both-reach, above-reach}
-use Rattle.summary.proofs.Meanings.{laneAt, place-lane, Stands, pop-end, stay-end, Reached}
+use Rattle.summary.proofs.Meanings.{laneAt, cell-lane, Passes, pop-end, stay-end, Reached}
 use Rattle.summary.proofs.Meanings.{Gives, Good, Makes, rows, blank-gives, first-good, second-good}
 
 module _ (t : Thread) (G : ℕ) (turnOf : ℕ → ℕ) (ends : ℕ → TurnEnd) (n : ℕ) where
@@ -29,8 +29,8 @@ module _ (t : Thread) (G : ℕ) (turnOf : ℕ → ℕ) (ends : ℕ → TurnEnd) 
   abbrev pub Means : ℕ → ℕ → Type 0
   Means k v =
       (c : Control) (γ : ℕ) (d : End Control) → c .passed ≤ endOf d .passed → endOf d .passed ≤ n
-      → c .shared < G → γ ≤ 16 → endOf d .shared < G → placeOf ends (endOf d .passed - c .passed) c γ (dest d) ≡ k → v ≤ 4096
-      → (us : List Step) × Uses (Moves t turnOf) (Switches ends n) c γ d us × (min (length us) 4096 ≤ v)
+      → c .shared < G → γ ≤ 16 → endOf d .shared < G → cellOf ends (endOf d .passed - c .passed) c γ (dest d) ≡ k → v ≤ cap
+      → (us : List Step) × Uses (Moves t turnOf) (Switches ends n) c γ d us × (min (length us) cap ≤ v)
 
 module _ (t : Thread) (G : ℕ) (turnOf : ℕ → ℕ) (ends : ℕ → TurnEnd) (n : ℕ) (fits : ThreadFits G t) (G4 : G ≤ 4) (n2 : n ≤ 2)
     (small : (j : ℕ) → j < n → (ends j .leave < 4) × (ends j .enter < 4)) where
@@ -76,7 +76,7 @@ module _ (t : Thread) (G : ℕ) (turnOf : ℕ → ℕ) (ends : ℕ → TurnEnd) 
     symbols x e = subst RightFits e (fits .rules r listed .symbols)
 
     -- What is left of a stretch after the rule.
-    onward : {m a γ : ℕ} {c : Control} {u : End Control} → a ≤ 15 → Stands n m c γ u → Stands n m (after r c) a u
+    onward : {m a γ : ℕ} {c : Control} {u : End Control} → a ≤ 15 → Passes n m c γ u → Passes n m (after r c) a u
     onward h s = record { gap = s .gap; last = s .last; from = omega (arith, fits .rules r listed .next); top = omega arith; to = s .to }
 
     -- The rows of edges of the rule, with m turn ends inside.
@@ -86,8 +86,8 @@ module _ (t : Thread) (G : ℕ) (turnOf : ℕ → ℕ) (ends : ℕ → TurnEnd) 
         let f = fits .rules r listed in
         rows t turnOf ends n n2 small m G₀ Γ₀ d w a b size
         (λ z k.
-        let place : Offset m G₀ Γ₀ d z = record { part = h; state = omega (arith, f .state); symbol = omega (arith, f .top); dest = i; offset = omega arith } in
-        (parts m G₀ Γ₀ d z place, λ q. place))
+        let spot : Offset m G₀ Γ₀ d z = record { part = h; state = omega (arith, f .state); symbol = omega (arith, f .top); dest = i; offset = omega arith } in
+        (parts m G₀ Γ₀ d z spot, λ q. spot))
 
     -- A removal, where no turn end can be inside.
     remove-good : ruleAt t r .right ≡ Remove → (e : Edge) → Row 1 (plain G₀ Γ₀ H₀) rest rest 1 e → Sound e
@@ -96,7 +96,7 @@ module _ (t : Thread) (G : ℕ) (turnOf : ℕ → ℕ) (ends : ℕ → TurnEnd) 
         by-rule 0 H₀ 1 rest rest 1 (omega arith) (omega arith) (omega arith)
         (λ x y z k i j p q c γ u s w.
         let end : u ≡ pop (after r c) = pop-end (after r c) u (omega arith) (w .narrow k .0) (omega arith) in
-        rw end (remove-reach (Moves t turnOf) (Switches ends n) (min (1 + x + y) 4096) (omega arith) (moves c γ Remove (w .state) (w .symbol) eq)))
+        rw end (remove-reach (Moves t turnOf) (Switches ends n) (min (1 + x + y) cap) (omega arith) (moves c γ Remove (w .state) (w .symbol) eq)))
 
     -- A swap.
     swap-good : (m : ℕ) → m ≤ 2 → (a : Symbol) → ruleAt t r .right ≡ Swap a
@@ -104,7 +104,7 @@ module _ (t : Thread) (G : ℕ) (turnOf : ℕ → ℕ) (ends : ℕ → TurnEnd) 
     swap-good m h a eq =
         by-rule m 0 1 rest (start m H₀ (a .0) 0) (8 * width m) h (omega arith) (omega arith)
         (λ x y z k i j p q c γ u s w.
-        swap-reach (Moves t turnOf) (Switches ends n) (min (1 + x + y) 4096) (omega arith)
+        swap-reach (Moves t turnOf) (Switches ends n) (min (1 + x + y) cap) (omega arith)
         (moves c γ (Swap a) (w .state) (w .symbol) eq)
         (q m (after r c) (a .0) u (onward (symbols (Swap a) eq) s) (w .same H₀ (a .0)) j))
 
@@ -116,14 +116,14 @@ module _ (t : Thread) (G : ℕ) (turnOf : ℕ → ℕ) (ends : ℕ → TurnEnd) 
         (λ x y z k i j p q c γ u s w.
         let end : u ≡ stay (endOf u) = stay-end u (w .low) (omega arith) in
         let part = q m (after r c) (a .0) u (onward (symbols (Push a b) eq .0) s) (w .same H₀ (a .0)) j in
-        subst (λ v. Stretches c γ v (min (1 + x + y) 4096)) (sym end)
-        (above-reach (Moves t turnOf) (Switches ends n) (min (1 + x + y) 4096) (omega arith)
+        subst (λ v. Stretches c γ v (min (1 + x + y) cap)) (sym end)
+        (above-reach (Moves t turnOf) (Switches ends n) (min (1 + x + y) cap) (omega arith)
         (moves c γ (Push a b) (w .state) (w .symbol) eq) (subst (λ v. Stretches (after r c) (a .0) v y) end part)))
 
     -- A push of both parts, the first with m and the second with o turn ends inside; p have passed in the middle, at state g.
     push-reach : (a b : Symbol) → ruleAt t r .right ≡ Push a b → (g : ℕ) → g < G → (p m o : ℕ) {l k x y v : ℕ}
-        → Gives t turnOf ends n l x → Gives t turnOf ends n k y → x ≤ 4096 → y ≤ 4096 → min (1 + x + y) 4096 ≤ v
-        → (c : Control) (γ : ℕ) (u : End Control) {j : ℕ} → Stands n j c γ u → c .shared ≡ G₀ → γ ≡ Γ₀
+        → Gives t turnOf ends n l x → Gives t turnOf ends n k y → x ≤ cap → y ≤ cap → min (1 + x + y) cap ≤ v
+        → (c : Control) (γ : ℕ) (u : End Control) {j : ℕ} → Passes n j c γ u → c .shared ≡ G₀ → γ ≡ Γ₀
         → p ≡ c .passed + m → endOf u .passed ≡ p + o
         → start m H₀ (a .0) g + laneAt ends m (c .passed) ≡ l → start o g (b .0) (dest u) + laneAt ends o p ≡ k
         → Stretches c γ u v
@@ -173,7 +173,7 @@ module _ (t : Thread) (G : ℕ) (turnOf : ℕ → ℕ) (ends : ℕ → TurnEnd) 
 
     -- Its edges with turn ends in one part.
     lane-good : (m : ℕ) → m ≤ 1 → (x : Right) → ruleAt t r .right ≡ x → (e : Edge) → laneBy (baseOf m) G G₀ Γ₀ H₀ x e → Sound e
-    lane-good m h Remove eq e w = absurd (omega (arith, w .inside))
+    lane-good m h Remove eq e w = absurd w
     lane-good m h (Swap a) eq e w = swap-good (suc m) (omega arith) a eq e w
     lane-good m h (Push a b) eq e (inl w) =
         ⊎-elim (late-good (suc m) (omega arith) a b eq (w .i) (w .inside) e)
@@ -183,8 +183,8 @@ module _ (t : Thread) (G : ℕ) (turnOf : ℕ → ℕ) (ends : ℕ → TurnEnd) 
     -- Its edges with a turn end in each part.
     across-good : (x : Right) → ruleAt t r .right ≡ x → (e : Edge)
         → crossBy (laneOf (ends 0 .leave) (ends 0 .enter)) G G₀ Γ₀ H₀ x e → Sound e
-    across-good Remove eq e w = absurd (omega (arith, w .inside))
-    across-good (Swap a) eq e w = absurd (omega (arith, w .inside))
+    across-good Remove eq e w = absurd w
+    across-good (Swap a) eq e w = absurd w
     across-good (Push a b) eq e w = cross-good a b eq (w .i) (w .inside) e (w .at)
 
   -- Every edge is sound.
@@ -208,4 +208,4 @@ pub sound : (t : Thread) (G : ℕ) (turnOf : ℕ → ℕ) (ends : ℕ → TurnEn
 sound t G turnOf ends n fits G4 n2 small f c γ d p q i j l e =
     let m = endOf d .passed - c .passed in
     gives t G turnOf ends n fits G4 n2 small f m c γ d
-    (record { gap = omega arith; last = q; from = omega arith; top = j; to = omega arith }) (place-lane ends m c γ (dest d) ∙ e)
+    (record { gap = omega arith; last = q; from = omega arith; top = j; to = omega arith }) (cell-lane ends m c γ (dest d) ∙ e)

@@ -14,8 +14,8 @@ use Rattle.summary.specs.Cells.{LaneRule, CrossRule, FirstEnds, SecondEn
 
 -- An edge leads to a cell between two bounds, and its parts lie below a third.
 pub record Span (low high parts : ℕ) (e : Edge) : Type 0 where
-  pub from : low ≤ e .k
-  pub to : e .k < high
+  pub from : low ≤ e .to
+  pub to : e .to < high
   pub a : e .a < parts
   pub b : e .b < parts
 
@@ -35,7 +35,7 @@ module _ (n g γ h : ℕ) (few : n ≤ 4) (gs : g < n) (γs : γ ≤ 15) (hs : h
 
   lane-right : (base : ℕ) (x : Right) → RightFits x → (e : Edge) → laneBy base n g γ h x e
       → Span base (base + 8704) (base + 8704) e
-  lane-right base Remove f e r = absurd (omega (arith, r .inside))
+  lane-right base Remove f e r = absurd r
   lane-right base (Swap a) f e r = row-span _ _ _ _ _ (omega arith) e r
   lane-right base (Push a b) f e (inl r) = go (r .i) (r .inside) (r .at)
     where
@@ -49,8 +49,8 @@ module _ (n g γ h : ℕ) (few : n ≤ 4) (gs : g < n) (γs : γ ≤ 15) (hs : h
   lane-right base (Push a b) f e (inr r) = row-span _ _ _ _ _ (omega arith) e r
 
   cross-right : (l : ℕ) → l < 16 → (x : Right) → RightFits x → (e : Edge) → crossBy l n g γ h x e → Span second size second e
-  cross-right l i Remove f e r = absurd (omega (arith, r .inside))
-  cross-right l i (Swap a) f e r = absurd (omega (arith, r .inside))
+  cross-right l i Remove f e r = absurd r
+  cross-right l i (Swap a) f e r = absurd r
   cross-right l i (Push a b) f e r =
       let q = r .inside in row-span _ _ _ _ _ (omega arith) e (r .at)
 

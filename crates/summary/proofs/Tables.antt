@@ -8,8 +8,9 @@ use Rattle.model.specs.declared.Right.{Right}
 use Rattle.model.specs.declared.Right.the-variants.{Remove, Swap, Push}
 use Rattle.model.specs.declared.Symbol.{Symbol}
 use Rattle.summary.specs.Stretch.{End, pop, stay, endOf, Stretch}
+use Rattle.summary.specs.Table.{cap}
 
--- The new symbols of a right side have a place in the table.
+-- The new symbols of a right side have a cell in the table.
 abbrev pub Symbols : (ℕ → Type 0) → Right → Type 0
 Symbols Sym Remove = Unit {0}
 Symbols Sym (Swap a) = Sym (a .0)
@@ -17,12 +18,12 @@ Symbols Sym (Push a b) = Sym (a .0) × Sym (b .0)
 
 -- An entry that is reached, and is no more than so many steps.
 pub record AtMost (entry steps : ℕ) : Type 0 where
-  pub reached : entry ≤ 4096
+  pub reached : entry ≤ cap
   pub most : entry ≤ steps
 
 module _ {C S : Type 0} (Move : C → ℕ → S → Right → C → Type 0) (Switch : C → C → Type 0)
     (Ctl : C → Type 0) (Sym : ℕ → Type 0) where
-  -- Controls and symbols that have a place in the table lead to such.
+  -- Controls and symbols that have a cell in the table lead to such.
   pub record Ranged : Type 0 where
     pub moves : {c c₁ : C} {γ : ℕ} {s : S} {x : Right} → Ctl c → Move c γ s x c₁ → Ctl c₁ × Symbols Sym x
     pub switches : {c c₁ : C} → Ctl c → Switch c c₁ → Ctl c₁
@@ -32,43 +33,43 @@ module _ {C S : Type 0} (Move : C → ℕ → S → Right → C → Type 0) (Swi
     pub here : (c : C) (γ : ℕ) → Ctl c → Sym γ → AtMost (T c γ (stay c)) 0
     pub remove : {c c₁ : C} {γ : ℕ} {s : S} → Ctl c → Sym γ → Move c γ s Remove c₁ → AtMost (T c γ (pop c₁)) 1
     pub swap : {c c₁ : C} {γ : ℕ} {s : S} {a : Symbol} (d : End C) → Ctl c → Sym γ → Ctl (endOf d)
-        → Move c γ s (Swap a) c₁ → T c₁ (a .0) d ≤ 4096 → AtMost (T c γ d) (1 + T c₁ (a .0) d)
+        → Move c γ s (Swap a) c₁ → T c₁ (a .0) d ≤ cap → AtMost (T c γ d) (1 + T c₁ (a .0) d)
     pub both : {c c₁ : C} {γ : ℕ} {s : S} {a b : Symbol} (q : C) (d : End C) → Ctl c → Sym γ → Ctl q → Ctl (endOf d)
-        → Move c γ s (Push a b) c₁ → T c₁ (a .0) (pop q) ≤ 4096 → T q (b .0) d ≤ 4096
+        → Move c γ s (Push a b) c₁ → T c₁ (a .0) (pop q) ≤ cap → T q (b .0) d ≤ cap
         → AtMost (T c γ d) (1 + T c₁ (a .0) (pop q) + T q (b .0) d)
     pub above : {c c₁ : C} {γ : ℕ} {s : S} {a b : Symbol} (q : C) → Ctl c → Sym γ → Ctl q
-        → Move c γ s (Push a b) c₁ → T c₁ (a .0) (stay q) ≤ 4096 → AtMost (T c γ (stay q)) (1 + T c₁ (a .0) (stay q))
+        → Move c γ s (Push a b) c₁ → T c₁ (a .0) (stay q) ≤ cap → AtMost (T c γ (stay q)) (1 + T c₁ (a .0) (stay q))
     pub change : {c c₁ : C} (γ : ℕ) (d : End C) → Ctl c → Sym γ → Ctl (endOf d)
-        → Switch c c₁ → T c₁ γ d ≤ 4096 → AtMost (T c γ d) (T c₁ γ d)
+        → Switch c c₁ → T c₁ γ d ≤ cap → AtMost (T c γ d) (T c₁ γ d)
 
-  -- A stretch ends at a control that has a place, and its entry is reached by no more steps than it has.
+  -- A stretch ends at a control that has a cell, and its entry is reached by no more steps than it has.
   pub record Bounded (T : C → ℕ → End C → ℕ) (c : C) (γ : ℕ) (d : End C) (ss rest : List S) : Type 0 where
-    pub place : Ctl (endOf d)
-    pub reached : T c γ d ≤ 4096
+    pub inside : Ctl (endOf d)
+    pub reached : T c γ d ≤ cap
     pub most : T c γ d + length rest ≤ length ss
 
   pub bounded : {T : C → ℕ → End C → ℕ} → Ranged → Closed T → {c : C} {γ : ℕ} {d : End C} {ss rest : List S}
       → Ctl c → Sym γ → Stretch Move Switch c γ d ss rest → Bounded T c γ d ss rest
-  bounded R K {c} {γ} p q Stretch.here = let e = K .here c γ p q in record { place = p; reached = e .reached; most = omega (arith, e .most) }
+  bounded R K {c} {γ} p q Stretch.here = let e = K .here c γ p q in record { inside = p; reached = e .reached; most = omega (arith, e .most) }
   bounded R K p q (Stretch.remove m) =
-      let e = K .remove p q m in record { place = R .moves p m .0; reached = e .reached; most = omega (arith, e .most) }
+      let e = K .remove p q m in record { inside = R .moves p m .0; reached = e .reached; most = omega (arith, e .most) }
   bounded R K {d = d} p q (Stretch.swap m r) =
       let i = R .moves p m in
       let h = bounded R K (i .0) (i .1) r in
-      let e = K .swap d p q (h .place) m (h .reached) in
-      record { place = h .place; reached = e .reached; most = omega (arith, e .most, h .most) }
+      let e = K .swap d p q (h .inside) m (h .reached) in
+      record { inside = h .inside; reached = e .reached; most = omega (arith, e .most, h .most) }
   bounded R K {d = d} p q (Stretch.both {q = u} m r t) =
       let i = R .moves p m in
       let h = bounded R K (i .0) (i .1 .0) r in
-      let k = bounded R K (h .place) (i .1 .1) t in
-      let e = K .both u d p q (h .place) (k .place) m (h .reached) (k .reached) in
-      record { place = k .place; reached = e .reached; most = omega (arith, e .most, h .most, k .most) }
+      let k = bounded R K (h .inside) (i .1 .1) t in
+      let e = K .both u d p q (h .inside) (k .inside) m (h .reached) (k .reached) in
+      record { inside = k .inside; reached = e .reached; most = omega (arith, e .most, h .most, k .most) }
   bounded R K p q (Stretch.above {q = u} m r) =
       let i = R .moves p m in
       let h = bounded R K (i .0) (i .1 .0) r in
-      let e = K .above u p q (h .place) m (h .reached) in
-      record { place = h .place; reached = e .reached; most = omega (arith, e .most, h .most) }
+      let e = K .above u p q (h .inside) m (h .reached) in
+      record { inside = h .inside; reached = e .reached; most = omega (arith, e .most, h .most) }
   bounded R K {γ = γ} {d = d} p q (Stretch.change s r) =
       let h = bounded R K (R .switches p s) q r in
-      let e = K .change γ d p q (h .place) s (h .reached) in
-      record { place = h .place; reached = e .reached; most = omega (arith, e .most, h .most) }
+      let e = K .change γ d p q (h .inside) s (h .reached) in
+      record { inside = h .inside; reached = e .reached; most = omega (arith, e .most, h .most) }

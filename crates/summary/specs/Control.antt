@@ -11,7 +11,7 @@ use Rattle.model.specs.Walk.{Step}
 use Rattle.summary.specs.Cells.{plain, lane, laneOf, first, second}
 use Rattle.summary.specs.Edges.{cell}
 use Rattle.summary.specs.Stretch.{End, pop, stay, endOf}
-use Rattle.summary.specs.Table.{Exact}
+use Rattle.summary.specs.Table.{unreached, Exact}
 
 -- A control: how many turn ends of the thread have passed, and the shared state.
 pub record Control : Type 0 where
@@ -44,28 +44,28 @@ dest (pop c) = c .shared
 dest (stay c) = 4 + c .shared
 
 -- The cell of a stretch with so many turn ends inside; with two, in the table that is solved for the first of them.
-abbrev pub placeOf : (ℕ → TurnEnd) → ℕ → Control → ℕ → ℕ → ℕ
-placeOf ends zero c γ d = plain (c .shared) γ d
-placeOf ends (suc zero) c γ d =
+abbrev pub cellOf : (ℕ → TurnEnd) → ℕ → Control → ℕ → ℕ → ℕ
+cellOf ends zero c γ d = plain (c .shared) γ d
+cellOf ends (suc zero) c γ d =
     lane first (c .shared) γ d + laneOf (ends (c .passed) .leave) (ends (c .passed) .enter)
-placeOf ends (suc (suc k)) c γ d =
+cellOf ends (suc (suc more)) c γ d =
     lane second (c .shared) γ d + laneOf (ends (suc (c .passed)) .leave) (ends (suc (c .passed)) .enter)
 
--- The entry of a stretch: its cell, and 4,097 where the destination lies in an earlier turn.
+-- The entry of a stretch: what its cell holds, and none where the destination lies in an earlier turn.
 abbrev pub entry : (ℕ → TurnEnd) → List ℕ → Control → ℕ → End Control → ℕ
-entry ends t c γ d =
-    cond (leb (c .passed) (endOf d .passed)) (cell t (placeOf ends (endOf d .passed - c .passed) c γ (dest d))) 4097
+entry ends table c γ d =
+    cond (leb (c .passed) (endOf d .passed)) (cell table (cellOf ends (endOf d .passed - c .passed) c γ (dest d))) unreached
 
--- A control that the table has places for: with G states and n turn ends.
+-- A control that the table has cells for, with g states and n turn ends.
 abbrev pub InTable : ℕ → ℕ → Control → Type 0
-InTable G n c = (c .passed ≤ n) × (c .shared < G)
+InTable g n c = (c .passed ≤ n) × (c .shared < g)
 
--- The states of n turn ends are below G.
+-- The states of n turn ends are below g.
 abbrev pub Inside : ℕ → ℕ → (ℕ → TurnEnd) → Type 0
-Inside G n ends = (j : ℕ) → j < n → (ends j .leave < G) × (ends j .enter < G)
+Inside g n ends = (j : ℕ) → j < n → (ends j .leave < g) × (ends j .enter < g)
 
 -- Every entry of the table is exact: the capped least number of steps of the stretches of the thread along any line with
 -- these turn ends, whatever the numbers of its turns.
-pub record Summed (t : Thread) (G n : ℕ) (ends : ℕ → TurnEnd) (tab : List ℕ) : Type 0 where
-  pub exact : (turnOf : ℕ → ℕ) (c : Control) (γ : ℕ) (d : End Control) → InTable G n c → γ ≤ 16 → InTable G n (endOf d)
-      → Exact (Moves t turnOf) (Switches ends n) c γ d (entry ends tab c γ d)
+pub record Summed (t : Thread) (g n : ℕ) (ends : ℕ → TurnEnd) (table : List ℕ) : Type 0 where
+  pub exact : (turnOf : ℕ → ℕ) (c : Control) (γ : ℕ) (d : End Control) → InTable g n c → γ ≤ 16 → InTable g n (endOf d)
+      → Exact (Moves t turnOf) (Switches ends n) c γ d (entry ends table c γ d)

@@ -6,11 +6,11 @@ use Rattle.summary.specs.declared.Kind.the-variants.{Plain, Lanes, Cross
 use Rattle.summary.specs.Cells.{second, PlainRule, LaneRule, CrossRule}
 use Rattle.summary.specs.Edges.{Edge}
 
--- The edges of a rule that are of a kind, with n states.
+-- The edges of a rule that are of a kind, with g states.
 abbrev pub RuleEdges : Kind → ℕ → Rule → Edge → Type 0
-RuleEdges Plain n r = PlainRule n r
-RuleEdges (Lanes base) n r = LaneRule base n r
-RuleEdges (Cross l) n r = CrossRule l n r
+RuleEdges Plain g r = PlainRule g r
+RuleEdges (Lanes base) g r = LaneRule base g r
+RuleEdges (Cross l) g r = CrossRule l g r
 
 -- The part of the table starts no later than the last, and the lane is one of sixteen.
 abbrev pub KindFits : Kind → Type 0

@@ -1,53 +1,56 @@
-// The places of the table, and the table before a search.
+// The cells of the table, and the table before a search.
+use crate::UNREACHED;
 ghost use mathlib.Core.Path.{_≡_};
 ghost use Prim.Native.Nat.{_≤_, _<_};
 ghost use lib.ListN.{length};
 ghost use Rattle.summary.specs.Cells.{plain, lane, second, blank, Reset};
 
-// The part with one turn end inside, the part with two, and the end of the table.
+// Where the part with one turn end inside starts.
 pub const FIRST: usize = 544;
 
+// Where the part with two starts.
 pub const SECOND: usize = 9248;
 
+// Where the table ends.
 pub const SIZE: usize = 17952;
 
 // A cell that is 0, for edges that have one part.
 pub const REST: usize = 4;
 
 // The cell of a stretch within one turn: from a state with a symbol on top to a destination.
-pub fn place(g: usize, s: usize, d: usize) -> usize
-    requires { ⌜ (g < 4) × (s < 17) × (d < 8) ⌝ }
-    ensures { λ r. ⌜ r ≡ plain g s d ⌝ }
+pub fn plain_cell(q: usize, top: usize, d: usize) -> usize
+    requires { ⌜ (q < 4) × (top < 17) × (d < 8) ⌝ }
+    ensures { λ r. ⌜ r ≡ plain q top d ⌝ }
 {
-    (g * 17 + s) * 8 + d
+    (q * 17 + top) * 8 + d
 }
 
 // The first of its sixteen lanes in the part that starts at `base`.
-pub fn lane_place(base: usize, g: usize, s: usize, d: usize) -> usize
-    requires { ⌜ (base ≤ second) × (g < 4) × (s < 17) × (d < 8) ⌝ }
-    ensures { λ r. ⌜ r ≡ lane base g s d ⌝ }
+pub fn lane_cell(base: usize, q: usize, top: usize, d: usize) -> usize
+    requires { ⌜ (base ≤ second) × (q < 4) × (top < 17) × (d < 8) ⌝ }
+    ensures { λ r. ⌜ r ≡ lane base q top d ⌝ }
 {
-    base + place(g, s, d) * 16
+    base + plain_cell(q, top, d) * 16
 }
 
 // Makes the cells of a part blank.
-pub fn reset(t: &mut [u64], from: usize, to: usize)
-    requires { ⌜ (from ≤ to) × (to ≤ length (now t)) ⌝ }
-    ensures { λ r. ⌜ Reset from to (now (t .entry)) (now (t .exit)) ⌝ }
+pub fn reset(table: &mut [u64], from: usize, to: usize)
+    requires { ⌜ (from ≤ to) × (to ≤ length (now table)) ⌝ }
+    ensures { λ r. ⌜ Reset from to (now (table .entry)) (now (table .exit)) ⌝ }
 {
     let mut i = from;
     while i < to {
-        t[i] = blank_at(i);
+        table[i] = blank_at(i);
         i += 1;
     }
 }
 
 // What a cell holds before a search: to stay in place takes no step.
-fn blank_at(k: usize) -> u64
-    ensures { λ r. ⌜ r ≡ blank k ⌝ }
+fn blank_at(at: usize) -> u64
+    ensures { λ r. ⌜ r ≡ blank at ⌝ }
 {
-    if FIRST <= k {
-        return 4097;
+    if FIRST <= at {
+        return UNREACHED;
     }
-    if k % 8 == 4 + k / 136 { 0 } else { 4097 }
+    if at % 8 == 4 + at / 136 { 0 } else { UNREACHED }
 }

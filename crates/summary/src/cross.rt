@@ -1,7 +1,7 @@
 // The edges of pushes with one turn end inside what comes of the first symbol, and one inside what comes of the second.
 use crate::cells::FIRST;
 use crate::cells::SECOND;
-use crate::cells::lane_place;
+use crate::cells::lane_cell;
 use crate::edges::row;
 use model::Right;
 use model::Rule;
@@ -13,50 +13,50 @@ ghost use Rattle.summary.specs.Cells.{lane, size, first, second, CrossRu
 ghost use Rattle.summary.specs.Edges.{Relaxed, Row, Below};
 
 // The edges of a rule whose first turn end is the one of lane l. How many cells have fallen.
-pub fn cross_rule(t: &mut [u64], l: usize, n: usize, r: Rule) -> u64
-    requires { ⌜ (length (now t) ≡ size) × (l < 16) × (n ≤ 4) × RuleFits n r ⌝ }
-    ensures { λ x. ⌜ Relaxed (CrossRule l n r) (now (t .entry)) (now (t .exit)) x × (x ≤ 512) ⌝ }
+pub fn cross_rule(table: &mut [u64], l: usize, g: usize, r: Rule) -> u64
+    requires { ⌜ (length (now table) ≡ size) × (l < 16) × (g ≤ 4) × RuleFits g r ⌝ }
+    ensures { λ x. ⌜ Relaxed (CrossRule l g r) (now (table .entry)) (now (table .exit)) x × (x ≤ 512) ⌝ }
 {
-    let g = r.before.0 as usize;
-    let s = r.symbol.0 as usize;
+    let p = r.before.0 as usize;
+    let top = r.symbol.0 as usize;
     let h = r.after.0 as usize;
     let right = r.right;
     match right {
         Right::Remove => 0,
         Right::Swap(_) => 0,
-        Right::Push(a, b) => cross_pushes(t, l, n, g, s, h, a.0 as usize, b.0 as usize),
+        Right::Push(a, b) => cross_pushes(table, l, g, p, top, h, a.0 as usize, b.0 as usize),
     }
 }
 
 // The edges of a push, at each state q where the first symbol goes.
 fn cross_pushes(
-    t: &mut [u64],
+    table: &mut [u64],
     l: usize,
-    n: usize,
     g: usize,
-    s: usize,
+    p: usize,
+    top: usize,
     h: usize,
     a: usize,
     b: usize,
 ) -> u64
     requires { ⌜
-        (length (now t) ≡ size) × (l < 16) × (n ≤ 4) × (g < 4) × (s < 17) × (h < 4) × (a < 17) × (b < 17)
+        (length (now table) ≡ size) × (l < 16) × (g ≤ 4) × (p < 4) × (top < 17) × (h < 4) × (a < 17) × (b < 17)
         ⌝ }
     ensures { λ x. ⌜
-        Relaxed (Below n (λ q. Row 1 (lane second g s 0) (lane first h a q + l) (lane first q b 0) 128))
-        (now (t .entry)) (now (t .exit)) x
-        × (x ≤ 128 * n)
+        Relaxed (Below g (λ q. Row 1 (lane second p top 0) (lane first h a q + l) (lane first q b 0) 128))
+        (now (table .entry)) (now (table .exit)) x
+        × (x ≤ 128 * g)
         ⌝ }
 {
     let mut changes = 0;
     let mut q = 0;
-    while q < n {
+    while q < g {
         changes += row(
-            t,
+            table,
             1,
-            lane_place(SECOND, g, s, 0),
-            lane_place(FIRST, h, a, q) + l,
-            lane_place(FIRST, q, b, 0),
+            lane_cell(SECOND, p, top, 0),
+            lane_cell(FIRST, h, a, q) + l,
+            lane_cell(FIRST, q, b, 0),
             128,
         );
         q += 1;

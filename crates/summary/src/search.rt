@@ -14,40 +14,40 @@ ghost use Rattle.summary.specs.Edges.{Relaxed, Closes};
 ghost use Rattle.summary.specs.Kinds.{RuleEdges, KindFits};
 
 // Passes until one changes nothing.
-pub fn settle(t: &mut [u64], kind: Kind, n: usize, th: Thread)
-    requires { ⌜ (length (now t) ≡ size) × (n ≤ 4) × KindFits kind × ThreadFits n th ⌝ }
-    ensures { λ r. ⌜ Closes (Rules th (RuleEdges kind n)) (now (t .entry)) (now (t .exit)) ⌝ }
+pub fn settle(table: &mut [u64], kind: Kind, g: usize, th: Thread)
+    requires { ⌜ (length (now table) ≡ size) × (g ≤ 4) × KindFits kind × ThreadFits g th ⌝ }
+    ensures { λ r. ⌜ Closes (Rules th (RuleEdges kind g)) (now (table .entry)) (now (table .exit)) ⌝ }
 {
     let mut changes = 1;
     while changes != 0 {
-        changes = pass(t, kind, n, th);
+        changes = pass(table, kind, g, th);
     }
 }
 
 // The edges of all rules, once. How many cells have fallen.
-pub fn pass(t: &mut [u64], kind: Kind, n: usize, th: Thread) -> u64
-    requires { ⌜ (length (now t) ≡ size) × (n ≤ 4) × KindFits kind × ThreadFits n th ⌝ }
-    ensures { λ x. ⌜ Relaxed (Rules th (RuleEdges kind n)) (now (t .entry)) (now (t .exit)) x × (x ≤ 1088 * 64) ⌝ }
+pub fn pass(table: &mut [u64], kind: Kind, g: usize, th: Thread) -> u64
+    requires { ⌜ (length (now table) ≡ size) × (g ≤ 4) × KindFits kind × ThreadFits g th ⌝ }
+    ensures { λ x. ⌜ Relaxed (Rules th (RuleEdges kind g)) (now (table .entry)) (now (table .exit)) x × (x ≤ 1088 * 64) ⌝ }
 {
     let count = th.count;
     let mut changes = 0;
     let mut i = 0;
     while i < count {
         let rule = th.rules[i];
-        changes += relax(t, kind, n, rule);
+        changes += relax(table, kind, g, rule);
         i += 1;
     }
     changes
 }
 
 // The edges of one rule.
-fn relax(t: &mut [u64], kind: Kind, n: usize, r: Rule) -> u64
-    requires { ⌜ (length (now t) ≡ size) × (n ≤ 4) × KindFits kind × RuleFits n r ⌝ }
-    ensures { λ x. ⌜ Relaxed (RuleEdges kind n r) (now (t .entry)) (now (t .exit)) x × (x ≤ 1088) ⌝ }
+fn relax(table: &mut [u64], kind: Kind, g: usize, r: Rule) -> u64
+    requires { ⌜ (length (now table) ≡ size) × (g ≤ 4) × KindFits kind × RuleFits g r ⌝ }
+    ensures { λ x. ⌜ Relaxed (RuleEdges kind g r) (now (table .entry)) (now (table .exit)) x × (x ≤ 1088) ⌝ }
 {
     match kind {
-        Kind::Plain => plain_rule(t, n, r),
-        Kind::Lanes(base) => lane_rule(t, base, n, r),
-        Kind::Cross(l) => cross_rule(t, l, n, r),
+        Kind::Plain => plain_rule(table, g, r),
+        Kind::Lanes(base) => lane_rule(table, base, g, r),
+        Kind::Cross(l) => cross_rule(table, l, g, r),
     }
 }

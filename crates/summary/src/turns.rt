@@ -17,40 +17,40 @@ ghost use Rattle.summary.specs.Cells.{size, first, second, Plain, First,
 ghost use Rattle.summary.specs.Control.{TurnEnd, Inside, Summed};
 
 // Solves the stretches within one turn, whatever the table held: each entry is then exact.
-pub fn close_plain(t: &mut [u64], n: usize, th: Thread)
-    requires { ⌜ (length (now t) ≡ size) × (n ≤ 4) × ThreadFits n th ⌝ }
-    ensures solved { λ r. ⌜ Solved (Plain th n) first (now (t .exit)) ⌝ }
-    ensures exact { λ r. ⌜ ((ends : ℕ → TurnEnd) → Summed th n 0 ends (now (t .exit))) ⌝ }
+pub fn close_plain(table: &mut [u64], g: usize, th: Thread)
+    requires { ⌜ (length (now table) ≡ size) × (g ≤ 4) × ThreadFits g th ⌝ }
+    ensures solved { λ r. ⌜ Solved (Plain th g) first (now (table .exit)) ⌝ }
+    ensures exact { λ r. ⌜ ((ends : ℕ → TurnEnd) → Summed th g 0 ends (now (table .exit))) ⌝ }
 {
-    reset(t, 0, FIRST);
-    settle(t, Kind::Plain, n, th);
+    reset(table, 0, FIRST);
+    settle(table, Kind::Plain, g, th);
 }
 
 // One turn end inside, from a table whose first part is solved: each entry is then exact, along any line.
-pub fn close_first(t: &mut [u64], n: usize, th: Thread)
-    requires { ⌜ (length (now t) ≡ size) × (n ≤ 4) × ThreadFits n th × Solved (Plain th n) first (now t) ⌝ }
-    ensures solved { λ r. ⌜ Solved (First th n) second (now (t .exit)) ⌝ }
-    ensures exact { λ r. ⌜ ((ends : ℕ → TurnEnd) → Inside n 1 ends → Summed th n 1 ends (now (t .exit))) ⌝ }
+pub fn close_first(table: &mut [u64], g: usize, th: Thread)
+    requires { ⌜ (length (now table) ≡ size) × (g ≤ 4) × ThreadFits g th × Solved (Plain th g) first (now table) ⌝ }
+    ensures solved { λ r. ⌜ Solved (First th g) second (now (table .exit)) ⌝ }
+    ensures exact { λ r. ⌜ ((ends : ℕ → TurnEnd) → Inside g 1 ends → Summed th g 1 ends (now (table .exit))) ⌝ }
 {
-    reset(t, FIRST, SIZE);
-    first_ends(t, n);
-    settle(t, Kind::Lanes(FIRST), n, th);
+    reset(table, FIRST, SIZE);
+    first_ends(table, g);
+    settle(table, Kind::Lanes(FIRST), g, th);
 }
 
 // Two turn ends inside of which the first is (o, i), from a table whose first two parts are solved, and which stay so: each
 // entry is then exact, along any line with that first turn end.
-pub fn close_second(t: &mut [u64], n: usize, o: usize, i: usize, th: Thread)
+pub fn close_second(table: &mut [u64], g: usize, o: usize, i: usize, th: Thread)
     requires { ⌜
-        (length (now t) ≡ size) × (n ≤ 4) × (o < 4) × (i < 4) × ThreadFits n th × Solved (First th n) second (now t)
+        (length (now table) ≡ size) × (g ≤ 4) × (o < 4) × (i < 4) × ThreadFits g th × Solved (First th g) second (now table)
         ⌝ }
-    ensures solved { λ r. ⌜ Solved (First th n) second (now (t .exit)) ⌝ }
+    ensures solved { λ r. ⌜ Solved (First th g) second (now (table .exit)) ⌝ }
     ensures exact { λ r. ⌜
-        ((ends : ℕ → TurnEnd) → Inside n 2 ends → ends 0 .leave ≡ o → ends 0 .enter ≡ i → Summed th n 2 ends (now (t .exit)))
+        ((ends : ℕ → TurnEnd) → Inside g 2 ends → ends 0 .leave ≡ o → ends 0 .enter ≡ i → Summed th g 2 ends (now (table .exit)))
         ⌝ }
 {
-    reset(t, SECOND, SIZE);
-    second_ends(t, o, i);
+    reset(table, SECOND, SIZE);
+    second_ends(table, o, i);
     let lane = o * 4 + i;
-    pass(t, Kind::Cross(lane), n, th);
-    settle(t, Kind::Lanes(SECOND), n, th);
+    pass(table, Kind::Cross(lane), g, th);
+    settle(table, Kind::Lanes(SECOND), g, th);
 }

@@ -12,36 +12,37 @@ use Rattle.model.specs.Walk.{Step}
 use Rattle.model.proofs.Inside.{applies-iff}
 use Rattle.costs.specs.Cost.{control}
 use Rattle.costs.specs.Ends.{turnOf}
-use Rattle.costs.specs.Lanes.{placeAt, LaneTo}
-use Rattle.costs.proofs.Entries.{place-at}
+use Rattle.costs.specs.Lanes.{cellAt, LaneTo}
+use Rattle.costs.proofs.Entries.{cell-at}
 use Rattle.summary.specs.Control.{Control, Moves, Switches, dest, entry, InTable}
 use Rattle.summary.specs.Edges.{cell}
 use Rattle.summary.specs.Stretch.{End, pop, stay, endOf}
-use Rattle.summary.specs.Table.{Exact}
+use Rattle.summary.specs.Table.{unreached, cap, Exact}
 use Rattle.summary.proofs.Best.{Best, best, exact-closed, here, remove, swap, both, above, change}
 use Rattle.summary.proofs.Ranging.{Sym, ranged}
 use Rattle.witness.specs.declared.goal.Goal.{Goal}
-use Rattle.witness.specs.Goals.{from, entryOf, movedTo, entered, goneAt, restAt, Splits, TightBy, Tight, Stands}
+use Rattle.witness.specs.Goals.{from, entryOf, movedTo, enteredAt, goneAt, restAt, Splits, TightBy, Tight, EndsAt}
 use Rattle.witness.specs.Plan.{statesIn, rulesIn, endsIn, ruleIn, Setting}
+use Rattle.model.specs.Schedules.{mostSteps}
 
 -- The count of a goal, as it is read off the table ..
 pub entry-read : (tab plan : List ℕ) (g : Goal) (l x : ℕ) → g .passed ≤ g .until → g .until ≤ 2
     → LaneTo (endsIn plan) (g .until) l
-    → x ≡ cell tab (placeAt (g .until - g .passed) (g .shared) (g .symbol) (g .dest) l) → x ≡ entryOf tab plan g
+    → x ≡ cell tab (cellAt (g .until - g .passed) (g .shared) (g .symbol) (g .dest) l) → x ≡ entryOf tab plan g
 unfolding entryOf
 entry-read tab plan g l x h two e r =
     rw (
       le-leb (g .passed) (g .until) h,
-      place-at (endsIn plan) (g .until - g .passed) (g .passed) (g .until) (g .shared) (g .symbol) (g .dest) l (omega arith) (omega arith) e,
+      cell-at (endsIn plan) (g .until - g .passed) (g .passed) (g .until) (g .shared) (g .symbol) (g .dest) l (omega arith) (omega arith) e,
     ) r
 
 -- .. and where it would end in an earlier turn.
-pub entry-late : (tab plan : List ℕ) (g : Goal) → g .until < g .passed → 4097 ≡ entryOf tab plan g
+pub entry-late : (tab plan : List ℕ) (g : Goal) → g .until < g .passed → unreached ≡ entryOf tab plan g
 unfolding entryOf
 entry-late tab plan g h = rw (lt-leb (g .passed) (g .until) h)
 
 -- A count that is reached is of a goal that ends in no earlier turn.
-pub in-time : (tab plan : List ℕ) (g : Goal) → entryOf tab plan g ≤ 4096 → g .passed ≤ g .until
+pub in-time : (tab plan : List ℕ) (g : Goal) → entryOf tab plan g ≤ cap → g .passed ≤ g .until
 in-time tab plan g h =
     elim (decLe (g .passed) (g .until)) [
       | yes l ↦ l
@@ -58,7 +59,7 @@ at-control j s y h e = let a : y / 4 ≡ j = omega arith in let b : y % 4 ≡ s 
 
 module _ {tab plan : List ℕ} (w : Setting tab plan) where
   -- The count of a goal is the entry of its stretch.
-  pub entry-same : {g : Goal} {d : End Control} → Stands w g d
+  pub entry-same : {g : Goal} {d : End Control} → EndsAt w g d
       → entryOf tab plan g ≡ entry (endsIn plan) tab (from g) (g .symbol) d
   unfolding entryOf
   entry-same s = rw (s .until, s .dest)
@@ -71,7 +72,7 @@ module _ {tab plan : List ℕ} (w : Setting tab plan) where
 
   -- The first move of a stretch in just as many steps as its entry says.
   first-move : (c : Control) (γ : ℕ) (d : End Control) → InTable (statesIn plan) (w .n) c → Sym γ
-      → InTable (statesIn plan) (w .n) (endOf d) → entry (endsIn plan) tab c γ d ≤ 4095
+      → InTable (statesIn plan) (w .n) (endOf d) → entry (endsIn plan) tab c γ d ≤ mostSteps
       → Best (Moves (w .thread) (turnOf (w .id))) (Switches (endsIn plan) (w .n)) (entry (endsIn plan) tab)
       (InTable (statesIn plan) (w .n)) c γ d
   first-move c γ d p q o h =
@@ -93,20 +94,20 @@ module _ {tab plan : List ℕ} (w : Setting tab plan) where
   -- How a goal goes on: by a step that is tight, or by the end of the turn.
   pub data First (g : Goal) (count : ℕ) : Type 0 where
     step : (r : ℕ) × (r < rulesIn plan) × Tight tab plan g count (ruleIn plan r) → First g count
-    turn : Switches (endsIn plan) (w .n) (from g) (from (entered g (endsIn plan (g .passed) .enter)))
-        → entryOf tab plan (entered g (endsIn plan (g .passed) .enter)) ≡ count → First g count
+    turn : Switches (endsIn plan) (w .n) (from g) (from (enteredAt g (endsIn plan (g .passed) .enter)))
+        → entryOf tab plan (enteredAt g (endsIn plan (g .passed) .enter)) ≡ count → First g count
 
   -- A move leads to a goal that has a place in the table, and to its entry.
   pub moved-stands : {g : Goal} {d : End Control} {s : Step} {x : Right} {c₁ : Control}
-      → Moves (w .thread) (turnOf (w .id)) (from g) (g .symbol) s x c₁ → Stands w g d → (a : ℕ)
-      → Stands w (movedTo g (c₁ .shared) a) d
+      → Moves (w .thread) (turnOf (w .id)) (from g) (g .symbol) s x c₁ → EndsAt w g d → (a : ℕ)
+      → EndsAt w (movedTo g (c₁ .shared) a) d
   moved-stands m s a =
       let i = ranged (turnOf (w .id)) (w .fits) (w .inside) .moves (s .start) m .0 in
       record { start = (s .start .0, i .1); stop = s .stop; until = s .until; dest = s .dest }
 
   -- So does a turn end.
-  pub entered-stands : {g : Goal} {d : End Control} {h : ℕ} → Switches (endsIn plan) (w .n) (from g) (from (entered g h))
-      → Stands w g d → Stands w (entered g h) d
+  pub entered-stands : {g : Goal} {d : End Control} {h : ℕ} → Switches (endsIn plan) (w .n) (from g) (from (enteredAt g h))
+      → EndsAt w g d → EndsAt w (enteredAt g h) d
   entered-stands k s =
       record {
         start = ranged (turnOf (w .id)) (w .fits) (w .inside) .switches (s .start) k;
@@ -116,13 +117,13 @@ module _ {tab plan : List ℕ} (w : Setting tab plan) where
       }
 
   -- The entry of a goal whose control is given by its parts.
-  entry-from : {g : Goal} {d : End Control} (c : Control) → Stands w g d → g .passed ≡ c .passed → g .shared ≡ c .shared
+  entry-from : {g : Goal} {d : End Control} (c : Control) → EndsAt w g d → g .passed ≡ c .passed → g .shared ≡ c .shared
       → entryOf tab plan g ≡ entry (endsIn plan) tab c (g .symbol) d
   entry-from {g} {d} c s p q =
       entry-same s ∙ ap (λ (c : Control). entry (endsIn plan) tab c (g .symbol) d) (control-is c (g .passed) (g .shared) p q)
 
   -- A pair whose first symbol is gone at a control of the table.
-  pub gone : {g : Goal} {d : End Control} {q : Control} (b count : ℕ) → Stands w g d → InTable (statesIn plan) (w .n) q
+  pub gone : {g : Goal} {d : End Control} {q : Control} (b count : ℕ) → EndsAt w g d → InTable (statesIn plan) (w .n) q
       → entry (endsIn plan) tab (from g) (g .symbol) (pop q) + entry (endsIn plan) tab q b d ≡ count
       → Splits tab plan g b count
   gone {g} {d} {q} b count s i e =
@@ -139,7 +140,7 @@ module _ {tab plan : List ℕ} (w : Setting tab plan) where
   from-best : {g : Goal} {d : End Control} {count : ℕ}
       → Best (Moves (w .thread) (turnOf (w .id))) (Switches (endsIn plan) (w .n)) (entry (endsIn plan) tab)
       (InTable (statesIn plan) (w .n)) (from g) (g .symbol) d
-      → Stands w g d → entry (endsIn plan) tab (from g) (g .symbol) d ≡ count → 0 < count → First g count
+      → EndsAt w g d → entry (endsIn plan) tab (from g) (g .symbol) d ≡ count → 0 < count → First g count
   from-best (here z) s e low = absurd (omega arith)
   from-best {g} {d} {count} (remove m z) s e low =
       step (tight-rule g count m (omega arith, sym (s .until) ∙ m .passed, sym (s .dest)))
@@ -158,13 +159,13 @@ module _ {tab plan : List ℕ} (w : Setting tab plan) where
       entry-from {d = stay q} c₁ (moved-stands m s (a .0)) (sym (m .passed)) refl in
       step (tight-rule g count m (Splits.above (omega (arith, s .dest)) (omega arith)))
   from-best {g} {d} (change {c₁ = c₁} k z) s e low =
-      let next : Switches (endsIn plan) (w .n) (from g) (from (entered g (endsIn plan (g .passed) .enter))) =
+      let next : Switches (endsIn plan) (w .n) (from g) (from (enteredAt g (endsIn plan (g .passed) .enter))) =
       record { more = k .more; leave = k .leave; enter = refl; passed = omega arith } in
       turn next (entry-from c₁ (entered-stands next s) (omega (arith, k .passed)) (sym (k .enter)) ∙ sym z ∙ e)
 
   -- A goal of at least one step goes on by a tight step or by the end of the turn.
-  pub first : {g : Goal} {d : End Control} {count : ℕ} → Stands w g d → g .symbol ≤ 16 → entryOf tab plan g ≡ count
-      → 0 < count → count ≤ 4095 → First g count
+  pub first : {g : Goal} {d : End Control} {count : ℕ} → EndsAt w g d → g .symbol ≤ 16 → entryOf tab plan g ≡ count
+      → 0 < count → count ≤ mostSteps → First g count
   first {g} {d} {count} s q e low high =
       let f : entry (endsIn plan) tab (from g) (g .symbol) d ≡ count = sym (entry-same s) ∙ e in
       from-best (first-move (from g) (g .symbol) d (s .start) q (s .stop) (omega arith)) s f low

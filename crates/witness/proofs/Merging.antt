@@ -16,7 +16,7 @@ use Rattle.model.specs.declared.ThreadId.the-variants.{A, B}
 use Rattle.model.specs.Walk.{ownerOf, Stacks, Step}
 use Rattle.costs.specs.View.{View, stop, skip, end, move}
 use Rattle.costs.proofs.Views.{Merged, none, left, right, merged-views}
-use Rattle.witness.specs.Merge.{merge}
+use Rattle.witness.specs.Merge.{merged}
 
 -- The turns of steps ascend from turn t on.
 abbrev Ascends : ℕ → List Step → Type 0
@@ -64,14 +64,14 @@ before t u b a h =
     omega arith
 
 -- Merging with no steps changes nothing.
-pub merge-nothing : (xs : List Step) → merge xs [] ≡ xs
-unfolding merge
+pub merge-nothing : (xs : List Step) → merged xs [] ≡ xs
+unfolding merged
 merge-nothing [] = refl
 merge-nothing (x ∷ xs) = refl
 
 -- A merged list that ascends is merged by turn.
-by-turn : {xs ys ss : List Step} → Merged xs ys ss → (t : ℕ) → Owned A xs → Owned B ys → Ascends t ss → ss ≡ merge xs ys
-unfolding merge
+by-turn : {xs ys ss : List Step} → Merged xs ys ss → (t : ℕ) → Owned A xs → Owned B ys → Ascends t ss → ss ≡ merged xs ys
+unfolding merged
 by-turn none t a b h = refl
 by-turn {xs = x ∷ xs} {ys = []} (left r) t (o, a) b (h, k) = rw (by-turn r (x .turn) a b k, merge-nothing)
 by-turn {xs = x ∷ xs} {ys = y ∷ ys} (left r) t (o, a) b (h, k) =
@@ -82,7 +82,7 @@ by-turn {xs = x ∷ xs} {ys = y ∷ ys} (right r) t a (o, b) (h, k) =
 
 -- Two views of one line, merged by turn, are a run.
 pub merged-turns : {m : Model} {g : ℕ} {σ : Stacks} {line : List ℕ} {xs ys : List Step}
-    → View m A 0 g (σ .a) line xs → View m B 0 g (σ .b) line ys → Turns m 0 g σ line (merge xs ys)
+    → View m A 0 g (σ .a) line xs → View m B 0 g (σ .b) line ys → Turns m 0 g σ line (merged xs ys)
 merged-turns v w =
     let r = merged-views v w in
     rw (by-turn (r .merged) 0 (owned v) (owned w) (ascends (r .turns))) at (r .turns)
@@ -93,11 +93,11 @@ either true xs ys p q = p
 either false xs ys p q = q
 
 -- Merging keeps the number of steps.
-pub merge-length : (xs ys : List Step) → length (merge xs ys) ≡ length xs + length ys
-unfolding merge
+pub merge-length : (xs ys : List Step) → length (merged xs ys) ≡ length xs + length ys
+unfolding merged
 merge-length [] ys = omega arith
 merge-length (x ∷ xs) [] = omega arith
 merge-length (x ∷ xs) (y ∷ ys) =
-    either (leb (x .turn) (y .turn)) (x ∷ merge xs (y ∷ ys)) (y ∷ merge (x ∷ xs) ys)
+    either (leb (x .turn) (y .turn)) (x ∷ merged xs (y ∷ ys)) (y ∷ merged (x ∷ xs) ys)
     (omega (arith, merge-length xs (y ∷ ys)))
     (omega (arith, merge-length (x ∷ xs) ys))

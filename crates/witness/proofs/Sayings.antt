@@ -10,7 +10,7 @@ use borrow.Author.Tests.{lt-ltb, le-ltb, eq-eqb, ne-eqb}
 use lib.Dec.{eqb, ltb}
 use Rattle.witness.specs.declared.goal.Goal.{Goal}
 use Rattle.witness.specs.declared.onward.Onward.the-variants.{One, Two}
-use Rattle.witness.specs.Goals.{entryOf, movedTo, entered, goneAt, restAt, Ready, Says, Sums, Splits, Goes}
+use Rattle.witness.specs.Goals.{entryOf, movedTo, enteredAt, goneAt, restAt, Ready, Says, Sums, Splits, Goes}
 use Rattle.witness.specs.Plan.{rulesIn, endsIn, ruleIn}
 
 -- The test of an equation answers it.
@@ -66,44 +66,44 @@ module _ {tab plan : List ℕ} {g : Goal} (r : Ready tab plan g) where
   -- The goals that come of a goal are in range.
   pub moved-ready : (h a : ℕ) → h < 4 → a ≤ 16 → Ready tab plan (movedTo g h a)
   moved-ready h a p q =
-      let f = r .goal in
+      let f = r .fits in
       record {
-        table = r .table;
+        size = r .size;
         range = r .range;
-        goal = record { passed = f .passed; shared = p; symbol = q; until = f .until; dest = f .dest };
+        fits = record { passed = f .passed; shared = p; symbol = q; until = f .until; dest = f .dest };
       }
 
-  pub entered-ready : (h : ℕ) → h < 4 → g .passed < g .until → Ready tab plan (entered g h)
+  pub entered-ready : (h : ℕ) → h < 4 → g .passed < g .until → Ready tab plan (enteredAt g h)
   entered-ready h p q =
-      let f = r .goal in
+      let f = r .fits in
       record {
-        table = r .table;
+        size = r .size;
         range = r .range;
-        goal = record { passed = omega (arith, f .until); shared = p; symbol = f .symbol; until = f .until; dest = f .dest };
+        fits = record { passed = omega (arith, f .until); shared = p; symbol = f .symbol; until = f .until; dest = f .dest };
       }
 
   pub gone-ready : {next : Goal} (y : ℕ) → y < 12 → next ≡ goneAt g y → Ready tab plan next
   gone-ready y h e =
-      let f = r .goal in
+      let f = r .fits in
       let j : y / 4 ≤ 2 = omega arith in
       let s : y % 4 < 8 = omega arith in
       rw e
       (record {
-        table = r .table;
+        size = r .size;
         range = r .range;
-        goal = record { passed = f .passed; shared = f .shared; symbol = f .symbol; until = j; dest = s };
+        fits = record { passed = f .passed; shared = f .shared; symbol = f .symbol; until = j; dest = s };
       })
 
   pub rest-ready : {next : Goal} {below : ℕ} (y : ℕ) → below ≤ 16 → y < 12 → next ≡ restAt g below y → Ready tab plan next
   rest-ready y b h e =
-      let f = r .goal in
+      let f = r .fits in
       let j : y / 4 ≤ 2 = omega arith in
       let s : y % 4 < 4 = omega arith in
       rw e
       (record {
-        table = r .table;
+        size = r .size;
         range = r .range;
-        goal = record { passed = j; shared = s; symbol = b; until = f .until; dest = f .dest };
+        fits = record { passed = j; shared = s; symbol = b; until = f .until; dest = f .dest };
       })
 
   -- So are those after a step by a rule of the plan.
@@ -121,6 +121,6 @@ module _ {tab plan : List ℕ} {g : Goal} (r : Ready tab plan g) where
       (rw (e .3) (moved-ready (ruleIn plan i .after .0) (e .0 .0) (f .next) (omega (arith, s .0))), omega (arith, e .4, s .1))
 
   -- So is the goal after the end of the turn.
-  pub turn-ready : {next : Goal} → g .passed < g .until → next ≡ entered g (endsIn plan (g .passed) .enter) → Ready tab plan next
+  pub turn-ready : {next : Goal} → g .passed < g .until → next ≡ enteredAt g (endsIn plan (g .passed) .enter) → Ready tab plan next
   turn-ready h e =
-      rw e (entered-ready (endsIn plan (g .passed) .enter) (r .range .ends (g .passed) (omega (arith, r .goal .until)) .1) h)
+      rw e (entered-ready (endsIn plan (g .passed) .enter) (r .range .ends (g .passed) (omega (arith, r .fits .until)) .1) h)

@@ -11,7 +11,7 @@ use lib.Seq.{sets}
 use Rattle.model.specs.Schedules.{bytesOf, stepsOf, stepAt, stepsFrom}
 use Rattle.model.specs.Walk.{Step}
 use Rattle.model.proofs.Stores.{first-step, short}
-use Rattle.witness.specs.Merge.{merge, Next}
+use Rattle.witness.specs.Merge.{merged, Next}
 use Rattle.witness.proofs.Merging.{merge-nothing}
 
 -- Past the last step there is none.
@@ -25,18 +25,18 @@ module _ (a b : List ℕ) {i j : ℕ} where
 
   -- .. where a has none, it is b's ..
   pub only-second : i ≡ length a / 2 → j < length b / 2 → Next a i b j false
-  unfolding merge
+  unfolding merged
   only-second e h = (h, rw (no-step a i e) (first-step b j h))
 
   -- .. and else the one of the lower turn.
   pub lower : i < length a / 2 → j < length b / 2 → Next a i b j (leb (getD a (2 * i) 0) (getD b (2 * j) 0))
-  unfolding merge
+  unfolding merged
   lower h k = decided (leb (getD a (2 * i) 0) (getD b (2 * j) 0)) (rw (first-step a i h, first-step b j k))
     where
       decided : (t : Bool)
-          → merge (stepsFrom a i) (stepsFrom b j)
-          ≡ cond t (stepAt a i ∷ merge (stepsFrom a (i + 1)) (stepsFrom b j))
-          (stepAt b j ∷ merge (stepsFrom a i) (stepsFrom b (j + 1)))
+          → merged (stepsFrom a i) (stepsFrom b j)
+          ≡ cond t (stepAt a i ∷ merged (stepsFrom a (i + 1)) (stepsFrom b j))
+          (stepAt b j ∷ merged (stepsFrom a i) (stepsFrom b (j + 1)))
           → Next a i b j t
       decided true e = (h, e)
       decided false e = (k, e)
@@ -46,8 +46,8 @@ pub record Sides (a b old new : List ℕ) (i j : ℕ) : Type 0 where
   pub first : i ≤ length a / 2
   pub second : j ≤ length b / 2
   pub size : length new ≡ length old
-  pub rest : sets new (2 * (i + j)) (bytesOf (merge (stepsFrom a i) (stepsFrom b j)))
-      ≡ sets old 0 (bytesOf (merge (stepsOf a) (stepsOf b)))
+  pub rest : sets new (2 * (i + j)) (bytesOf (merged (stepsFrom a i) (stepsFrom b j)))
+      ≡ sets old 0 (bytesOf (merged (stepsOf a) (stepsOf b)))
 
 -- At the start nothing is written.
 pub sides-start : (a b old : List ℕ) → Sides a b old old 0 0
@@ -82,8 +82,8 @@ module _ {a b old new put : List ℕ} {i j : ℕ} (s : Sides a b old new i j) wh
 
 -- At the end all is written.
 pub sides-end : {a b old new : List ℕ} {i j : ℕ} → Sides a b old new i j → length a / 2 + length b / 2 ≤ i + j
-    → new ≡ sets old 0 (bytesOf (merge (stepsOf a) (stepsOf b)))
-unfolding merge
+    → new ≡ sets old 0 (bytesOf (merged (stepsOf a) (stepsOf b)))
+unfolding merged
 sides-end {a} {b} {i = i} {j} s h =
     let p : i ≡ length a / 2 = omega (arith, s .first, s .second) in
     let q : j ≡ length b / 2 = omega (arith, s .first, s .second) in

@@ -10,7 +10,7 @@ use lib.ListN.{length, getD}
 use Rattle.model.specs.declared.Thread.{Thread}
 use Rattle.model.specs.Fits.{ThreadFits}
 use Rattle.model.specs.Lines.{States, digits}
-use Rattle.model.specs.Schedules.{Stored}
+use Rattle.model.specs.Schedules.{mostSteps, Stored}
 use Rattle.model.specs.declared.ThreadId.{ThreadId}
 use Rattle.model.specs.Walk.{Step}
 use Rattle.costs.specs.Cost.{control, through, pairCost, RunAlong, LeastAlong}
@@ -26,8 +26,8 @@ use Rattle.summary.proofs.Leasts.{least-as, least-once}
 use Rattle.summary.proofs.Overs.{pops, stays}
 use Rattle.summary.proofs.Relaxing.{better}
 use Rattle.witness.specs.declared.goal.Goal.{Goal}
-use Rattle.witness.specs.Goals.{from, Starts, Ready, Splits, Stands, Pairs}
-use Rattle.witness.specs.Plan.{statesIn, endsIn, Setting, Known}
+use Rattle.witness.specs.Goals.{from, Starts, Ready, Splits, EndsAt, Pairs}
+use Rattle.witness.specs.Plan.{statesIn, endsIn, Setting, Prepared}
 use Rattle.witness.proofs.Firsts.{entry-same, gone}
 use Rattle.witness.proofs.Writers.{stored-as}
 
@@ -48,7 +48,7 @@ path-ends h (Path.change {c = c} s p) =
     })
     (path-ends h p)
 
-module _ {t : Thread} {i : ThreadId} {G n : ℕ} {line tab plan : List ℕ} (K : Known t i G n line tab plan) (two : n ≤ 2)
+module _ {t : Thread} {i : ThreadId} {G n : ℕ} {line tab plan : List ℕ} (K : Prepared t i G n line tab plan) (two : n ≤ 2)
     (fits : ThreadFits G t) (size : length line ≡ 2 * suc n) (states : States G line) where
   -- The plan's turn ends are the line's, so states below G.
   pub inside : Inside (statesIn plan) n (endsIn plan)
@@ -85,7 +85,7 @@ module _ {t : Thread} {i : ThreadId} {G n : ℕ} {line tab plan : List ℕ} (K :
     abbrev d : Control
     d = control n (lastState i n line)
 
-    pub stands : Stands setting whole (stay (control n (lastState i n line)))
+    pub stands : EndsAt setting whole (stay (control n (lastState i n line)))
     stands =
         record {
           start = (omega arith, rw (K .states) first);
@@ -97,9 +97,9 @@ module _ {t : Thread} {i : ThreadId} {G n : ℕ} {line tab plan : List ℕ} (K :
     pub ready : Ready tab plan whole
     ready =
         record {
-          table = K .size;
+          size = K .size;
           range = K .range;
-          goal =
+          fits =
               record {
                 passed = omega arith;
                 shared = omega (arith, K .range .states, K .states);
@@ -110,14 +110,14 @@ module _ {t : Thread} {i : ThreadId} {G n : ℕ} {line tab plan : List ℕ} (K :
         }
 
     -- Each candidate of the least is a way to write the pair ..
-    step : (j s old : ℕ) → j ≤ n → s < statesIn plan → (old ≤ 4095 → Splits tab plan whole 16 old)
-        → through (endsIn plan) tab c (t .first .0) d (control j s) old ≤ 4095
+    step : (j s old : ℕ) → j ≤ n → s < statesIn plan → (old ≤ mostSteps → Splits tab plan whole 16 old)
+        → through (endsIn plan) tab c (t .first .0) d (control j s) old ≤ mostSteps
         → Splits tab plan whole 16 (through (endsIn plan) tab c (t .first .0) d (control j s) old)
     step j s old b l r =
         which (entry (endsIn plan) tab c (t .first .0) (pop (control j s))) (entry (endsIn plan) tab (control j s) 16 (stay d)) refl refl
       where
         which : (x y : ℕ) → entry (endsIn plan) tab c (t .first .0) (pop (control j s)) ≡ x
-            → entry (endsIn plan) tab (control j s) 16 (stay d) ≡ y → bestOf 0 x y old ≤ 4095
+            → entry (endsIn plan) tab (control j s) 16 (stay d) ≡ y → bestOf 0 x y old ≤ mostSteps
             → Splits tab plan whole 16 (bestOf 0 x y old)
         which x y p q h =
             ⊎-elim (λ e. rw e (r (rw e at h)))
@@ -125,13 +125,13 @@ module _ {t : Thread} {i : ThreadId} {G n : ℕ} {line tab plan : List ℕ} (K :
             (better 0 x y old .which)
 
     -- .. so there is one in just as many steps as the line's least.
-    pub splits : {count : ℕ} → count ≤ 4095 → LeastAlong t i n g line count → Splits tab plan whole 16 count
+    pub splits : {count : ℕ} → count ≤ mostSteps → LeastAlong t i n g line count → Splits tab plan whole 16 count
     splits {count} h least =
         let cost = pair-cost (setting .fits) inside (setting .summed) (turnOf i) c (t .first .0) d (stands .start) (fits .first) (stands .stop) in
         let same : pairCost (endsIn plan) tab (statesIn plan) n c (t .first .0) d ≡ count =
         least-once (least-as (λ ss p. path-ends (λ j l. sym (K .ends j l)) p) (λ ss p. path-ends (K .ends) p) least) cost (omega arith) in
         subst (λ v. Splits tab plan whole 16 v) same
-        (turns-made (endsIn plan) tab c (t .first .0) d (statesIn plan) n (λ (v : ℕ). v ≤ 4095 → Splits tab plan whole 16 v) step
+        (turns-made (endsIn plan) tab c (t .first .0) d (statesIn plan) n (λ (v : ℕ). v ≤ mostSteps → Splits tab plan whole 16 v) step
         (λ l. Splits.above (omega arith) (entry-same setting stands)) (suc n) (le-refl (suc n)) (omega arith))
 
     -- What is written for the pair is a run of the thread along the line.

@@ -9,7 +9,7 @@ use lib.Seq.{sets, length-take-le}
 use Rattle.model.specs.declared.Model.{Model}
 use Rattle.model.specs.Lines.{digits}
 use Rattle.model.specs.Runs.{Turns}
-use Rattle.model.specs.Schedules.{bytesOf, stepsOf, Stored}
+use Rattle.model.specs.Schedules.{mostBytes, mostSteps, bytesOf, stepsOf, Stored}
 use Rattle.model.specs.declared.ThreadId.{ThreadId}
 use Rattle.model.specs.declared.ThreadId.the-variants.{A, B}
 use Rattle.model.specs.Walk.{threadOf, startStacks}
@@ -18,7 +18,7 @@ use Rattle.model.proofs.Stores.{stored-steps}
 use Rattle.costs.specs.Cost.{RunAlong, LeastAlong, ViewCost}
 use Rattle.costs.proofs.Along.{line-view, view-cost}
 use Rattle.witness.specs.Chosen.{Chosen}
-use Rattle.witness.specs.Merge.{merge}
+use Rattle.witness.specs.Merge.{merged}
 use Rattle.witness.proofs.Merging.{merged-turns, merge-length}
 
 -- K rounds are K − 1 turn ends and one more.
@@ -26,7 +26,7 @@ rounds : (k : ℕ) → 1 ≤ k → 2 * suc (k - 1) ≡ 2 * k
 rounds k h = omega arith
 
 -- A schedule store has room for the steps of both threads.
-pub fronts-fit : (a b : List ℕ) (x y : ℕ) {n : ℕ} → 2 * x ≤ length a → 2 * y ≤ length b → x + y ≤ 4095 → 8190 ≤ n
+pub fronts-fit : (a b : List ℕ) (x y : ℕ) {n : ℕ} → 2 * x ≤ length a → 2 * y ≤ length b → x + y ≤ mostSteps → mostBytes ≤ n
     → length (take (2 * x) a) + length (take (2 * y) b) ≤ n
 fronts-fit a b x y h k most room = omega (arith, length-take-le (2 * x) a h, length-take-le (2 * y) b k)
 
@@ -47,7 +47,7 @@ module _ (m : Model) {v x y : ℕ} (k : 1 ≤ m .k) (c : Chosen m v x y) where
       → Stored (RunAlong (m .a) A (m .k - 1) (m .start .0) (digits (m .g) (2 * suc (m .k - 1)) v)) x 0 s a
       → Stored (RunAlong (m .b) B (m .k - 1) (m .start .0) (digits (m .g) (2 * suc (m .k - 1)) v)) y 0 t b
       → 2 * x ≤ length s → 2 * y ≤ length t
-      → new ≡ sets old 0 (bytesOf (merge (stepsOf (take (2 * x) a)) (stepsOf (take (2 * y) b))))
+      → new ≡ sets old 0 (bytesOf (merged (stepsOf (take (2 * x) a)) (stepsOf (take (2 * y) b))))
       → Stored (Turns m 0 (m .start .0) (startStacks m) (digits (m .g) (2 * m .k) v)) (x + y) 0 old new
   written {a = a} {b} p q i j e =
       let line : List ℕ = digits (m .g) (2 * suc (m .k - 1)) v in
@@ -55,7 +55,7 @@ module _ (m : Model) {v x y : ℕ} (k : 1 ≤ m .k) (c : Chosen m v x y) where
       let one = line-view m A (m .k - 1) (m .start .0) _ line (p .steps) size .1 (p .run) in
       let other = line-view m B (m .k - 1) (m .start .0) _ line (q .steps) size .1 (q .run) in
       record {
-        steps = merge (p .steps) (q .steps);
+        steps = merged (p .steps) (q .steps);
         run = rw (rounds (m .k) k) at (merged-turns one other);
         count = merge-length (p .steps) (q .steps) ∙ omega (arith, p .count, q .count);
         shown = rw (stored-steps p i, stored-steps q j) at e;

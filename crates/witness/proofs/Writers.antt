@@ -9,7 +9,7 @@ use lib.ListN.{length, getD, set, length-append}
 use Rattle.model.specs.declared.Right.the-variants.{Remove, Swap, Push}
 use Rattle.model.specs.declared.Rule.{Rule}
 use Rattle.model.specs.declared.Symbol.{Symbol}
-use Rattle.model.specs.Schedules.{bytesOf, Stored}
+use Rattle.model.specs.Schedules.{mostSteps, bytesOf, Stored}
 use Rattle.model.specs.declared.ThreadId.{ThreadId}
 use Rattle.model.specs.declared.ThreadId.the-variants.{A, B}
 use Rattle.model.specs.Walk.{Step}
@@ -20,7 +20,7 @@ use Rattle.costs.specs.Ends.{turnOf}
 use Rattle.summary.specs.Control.{Control, Moves, Switches, dest}
 use Rattle.summary.specs.Stretch.{End, pop, stay, Stretch}
 use Rattle.witness.specs.declared.goal.Goal.{Goal}
-use Rattle.witness.specs.Goals.{from, entryOf, movedTo, entered, goneAt, restAt, Sums, Splits, Tight, Stands, Stretches, Pairs}
+use Rattle.witness.specs.Goals.{from, entryOf, movedTo, enteredAt, goneAt, restAt, Sums, Splits, Tight, EndsAt, Stretches, Pairs}
 use Rattle.witness.specs.Plan.{rulesIn, turnIn, endsIn, ruleIn, Setting}
 use Rattle.witness.proofs.Firsts.{in-time, control-is, entry-same, exact, moved-stands, entered-stands, First, step, turn, first}
 
@@ -86,7 +86,7 @@ module _ {tab plan : List ℕ} (w : Setting tab plan) where
       }
 
   -- A goal of no step: nothing is written.
-  pub stopped : {g : Goal} {d : End Control} {count : ℕ} (at : ℕ) (old : List ℕ) → Stands w g d → g .symbol ≤ 16
+  pub stopped : {g : Goal} {d : End Control} {count : ℕ} (at : ℕ) (old : List ℕ) → EndsAt w g d → g .symbol ≤ 16
       → entryOf tab plan g ≡ count → count ≡ 0 → Stored (Stretches w (from g) (g .symbol) d) count at old old
   stopped {g} {d} {count} at old s q e z =
       let u = exact w (from g) (g .symbol) d (s .start) q (s .stop) .some (omega (arith, entry-same w s)) in
@@ -98,23 +98,23 @@ module _ {tab plan : List ℕ} (w : Setting tab plan) where
       go (x ∷ us) r h = absurd (omega arith)
 
   -- The turn ends where no rule is tight.
-  pub turned : {g : Goal} {d : End Control} {count at : ℕ} {old new : List ℕ} {h : ℕ} → Stands w g d → g .symbol ≤ 16
-      → entryOf tab plan g ≡ count → 0 < count → count ≤ 4095
+  pub turned : {g : Goal} {d : End Control} {count at : ℕ} {old new : List ℕ} {h : ℕ} → EndsAt w g d → g .symbol ≤ 16
+      → entryOf tab plan g ≡ count → 0 < count → count ≤ mostSteps
       → ((i : ℕ) → i < rulesIn plan → Tight tab plan g count (ruleIn plan i) → ⊥)
-      → (g .passed < g .until → (h ≡ endsIn plan (g .passed) .enter) × (Stands w (entered g h) d → entryOf tab plan (entered g h) ≡ count
-      → Stored (Stretches w (from (entered g h)) (g .symbol) d) count at old new))
+      → (g .passed < g .until → (h ≡ endsIn plan (g .passed) .enter) × (EndsAt w (enteredAt g h) d → entryOf tab plan (enteredAt g h) ≡ count
+      → Stored (Stretches w (from (enteredAt g h)) (g .symbol) d) count at old new))
       → Stored (Stretches w (from g) (g .symbol) d) count at old new
   turned {g} {d} {count} {at} {old} {new} {h} s q e low high none next = go (first w s q e low high)
     where
       go : First w g count → Stored (Stretches w (from g) (g .symbol) d) count at old new
       go (step t) = absurd (none (t .0) (t .1) (t .2))
       go (turn k f) =
-          let i : g .passed + 1 ≤ g .until = in-time tab plan (entered g (endsIn plan (g .passed) .enter)) (omega arith) in
+          let i : g .passed + 1 ≤ g .until = in-time tab plan (enteredAt g (endsIn plan (g .passed) .enter)) (omega arith) in
           let n = next (omega arith) in
           let r = rw (n .0) at (n .1) in
           stored-as (λ us p rest. Stretch.change k (p rest)) (r (entered-stands w k s) f)
 
-  module _ {g : Goal} {d : End Control} {count at : ℕ} {old new : List ℕ} (s : Stands w g d) (low : 0 < count) (r : ℕ)
+  module _ {g : Goal} {d : End Control} {count at : ℕ} {old new : List ℕ} (s : EndsAt w g d) (low : 0 < count) (r : ℕ)
       (l : r < rulesIn plan) (t : Tight tab plan g count (ruleIn plan r)) where
     -- The symbol is removed by the one step.
     pub removed : ruleIn plan r .right ≡ Remove → new ≡ set (set old at (turnIn plan (g .passed))) (at + 1) r
@@ -128,7 +128,7 @@ module _ {tab plan : List ℕ} (w : Setting tab plan) where
             subst (λ q. Stretch (Moves (w .thread) (turnOf (w .id))) (Switches (endsIn plan) (w .n)) (from g) (g .symbol) (pop q) (u ∷ rest) rest) e
             (Stretch.remove m)
 
-        go : (d : End Control) → Stands w g d → Stored (Stretches w (from g) (g .symbol) d) count at old new
+        go : (d : End Control) → EndsAt w g d → Stored (Stretches w (from g) (g .symbol) d) count at old new
         go (pop c) s =
             let b = rw x at (t .2) in
             let m = rw x at (move-of g count r l t) in
@@ -143,7 +143,7 @@ module _ {tab plan : List ℕ} (w : Setting tab plan) where
 
     -- Another symbol stands in its place.
     pub swapped : (a : Symbol) → ruleIn plan r .right ≡ Swap a
-        → (Stands w (movedTo g (ruleIn plan r .after .0) (a .0)) d
+        → (EndsAt w (movedTo g (ruleIn plan r .after .0) (a .0)) d
         → entryOf tab plan (movedTo g (ruleIn plan r .after .0) (a .0)) ≡ count - 1
         → Stored (Stretches w (from (movedTo g (ruleIn plan r .after .0) (a .0))) (a .0) d) (count - 1) (at + 2)
         (set (set old at (turnIn plan (g .passed))) (at + 1) r) new)
@@ -155,7 +155,7 @@ module _ {tab plan : List ℕ} (w : Setting tab plan) where
 
     -- Two symbols stand in its place.
     pub pushed : (a b : Symbol) → ruleIn plan r .right ≡ Push a b
-        → (Stands w (movedTo g (ruleIn plan r .after .0) (a .0)) d
+        → (EndsAt w (movedTo g (ruleIn plan r .after .0) (a .0)) d
         → Splits tab plan (movedTo g (ruleIn plan r .after .0) (a .0)) (b .0) (count - 1)
         → Stored (Pairs w (from (movedTo g (ruleIn plan r .after .0) (a .0))) (a .0) (b .0) d) (count - 1) (at + 2)
         (set (set old at (turnIn plan (g .passed))) (at + 1) r) new)
@@ -172,18 +172,18 @@ module _ {tab plan : List ℕ} (w : Setting tab plan) where
         both-of m (Pairs.both xs ys p q) rest = rw append-assoc (Stretch.both m (p (ys ++ rest)) (q rest))
 
   -- A pair whose second symbol is not touched.
-  pub kept : {g : Goal} {d : End Control} {below count at : ℕ} {old new : List ℕ} → Stands w g d → 4 ≤ g .dest
+  pub kept : {g : Goal} {d : End Control} {below count at : ℕ} {old new : List ℕ} → EndsAt w g d → 4 ≤ g .dest
       → Stored (Stretches w (from g) (g .symbol) d) count at old new
       → Stored (Pairs w (from g) (g .symbol) below d) count at old new
   kept {d = pop c} s h r = absurd (omega (arith, s .dest, s .stop .1, w .four))
   kept {d = stay c} s h r = stored-as (λ us p. Pairs.above p) r
 
   -- A pair whose first symbol is gone at control y.
-  pub parted : {g : Goal} {d : End Control} {below count at x : ℕ} {old mid new : List ℕ} (y : ℕ) → Stands w g d → count ≤ 4095
+  pub parted : {g : Goal} {d : End Control} {below count at x : ℕ} {old mid new : List ℕ} (y : ℕ) → EndsAt w g d → count ≤ mostSteps
       → x ≡ entryOf tab plan (goneAt g y) → Sums tab plan g below count y
-      → (Stands w (goneAt g y) (pop (control (y / 4) (y % 4)))
+      → (EndsAt w (goneAt g y) (pop (control (y / 4) (y % 4)))
       → Stored (Stretches w (from g) (g .symbol) (pop (control (y / 4) (y % 4)))) x at old mid)
-      → (Stands w (restAt g below y) d → entryOf tab plan (restAt g below y) ≡ count - x
+      → (EndsAt w (restAt g below y) d → entryOf tab plan (restAt g below y) ≡ count - x
       → Stored (Stretches w (control (y / 4) (y % 4)) below d) (count - x) (at + 2 * x) mid new)
       → Stored (Pairs w (from g) (g .symbol) below d) count at old new
   parted {g} {d} {below} {count} {at} {x} y s high e t one other =

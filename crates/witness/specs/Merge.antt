@@ -9,14 +9,14 @@ use Rattle.model.specs.Schedules.{stepAt, stepsFrom}
 use Rattle.model.specs.Walk.{Step}
 
 -- Both lists' steps in the order of their turns, each list in its own order. Of two in one turn the first list's comes first.
-unfoldable pub merge : List Step → List Step → List Step
-merge [] ys = ys
-merge (x ∷ xs) [] = x ∷ xs
-merge (x ∷ xs) (y ∷ ys) = cond (leb (x .turn) (y .turn)) (x ∷ merge xs (y ∷ ys)) (y ∷ merge (x ∷ xs) ys)
+unfoldable pub merged : List Step → List Step → List Step
+merged [] ys = ys
+merged (x ∷ xs) [] = x ∷ xs
+merged (x ∷ xs) (y ∷ ys) = cond (leb (x .turn) (y .turn)) (x ∷ merged xs (y ∷ ys)) (y ∷ merged (x ∷ xs) ys)
 
 -- Of the steps from place i of a and place j of b on, merged, the first is a's, or else b's.
 abbrev pub Next : List ℕ → ℕ → List ℕ → ℕ → Bool → Type 0
 Next a i b j true =
-    (i < length a / 2) × (merge (stepsFrom a i) (stepsFrom b j) ≡ stepAt a i ∷ merge (stepsFrom a (i + 1)) (stepsFrom b j))
+    (i < length a / 2) × (merged (stepsFrom a i) (stepsFrom b j) ≡ stepAt a i ∷ merged (stepsFrom a (i + 1)) (stepsFrom b j))
 Next a i b j false =
-    (j < length b / 2) × (merge (stepsFrom a i) (stepsFrom b j) ≡ stepAt b j ∷ merge (stepsFrom a i) (stepsFrom b (j + 1)))
+    (j < length b / 2) × (merged (stepsFrom a i) (stepsFrom b j) ≡ stepAt b j ∷ merged (stepsFrom a i) (stepsFrom b (j + 1)))

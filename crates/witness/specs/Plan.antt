@@ -21,10 +21,11 @@ use Rattle.summary.specs.Control.{TurnEnd, Inside, Summed}
 abbrev pub planSize : ℕ
 planSize = 392
 
--- Byte 0 is the number of shared states, byte 6 that of the thread's rules.
+-- The number of shared states: byte 0.
 abbrev pub statesIn : List ℕ → ℕ
 statesIn plan = getD plan 0 0
 
+-- The number of the thread's rules: byte 6.
 abbrev pub rulesIn : List ℕ → ℕ
 rulesIn plan = getD plan 6 0
 
@@ -66,13 +67,13 @@ ruleIn plan r = ruleFrom plan (8 + 6 * r)
 
 -- The first seven bytes of a plan: G, the thread's first turn, its first two turn ends along a line, and its rule count.
 abbrev pub headBytes : ThreadId → ℕ → List ℕ → ℕ → List ℕ
-headBytes i g line count =
+headBytes id g line count =
     g
-    ∷ turnOf i 0
-    ∷ endsOf i line 0 .leave
-    ∷ endsOf i line 0 .enter
-    ∷ endsOf i line 1 .leave
-    ∷ endsOf i line 1 .enter
+    ∷ turnOf id 0
+    ∷ endsOf id line 0 .leave
+    ∷ endsOf id line 0 .enter
+    ∷ endsOf id line 1 .leave
+    ∷ endsOf id line 1 .enter
     ∷ count
     ∷ []
 
@@ -86,13 +87,13 @@ pub record InRange (plan : List ℕ) : Type 0 where
   pub rules : (r : ℕ) → r < rulesIn plan → RuleFits 4 (ruleIn plan r)
 
 -- A plan of a thread: its turns and its rules.
-pub record Planned (t : Thread) (i : ThreadId) (plan : List ℕ) : Type 0 where
-  pub turn : getD plan 1 0 ≡ turnOf i 0
+pub record Planned (t : Thread) (id : ThreadId) (plan : List ℕ) : Type 0 where
+  pub turn : getD plan 1 0 ≡ turnOf id 0
   pub count : rulesIn plan ≡ t .count
   pub rules : (r : ℕ) → r < t .count → ruleIn plan r ≡ ruleAt t r
 
 -- The setting of the writers: a thread in range, n turn ends of a line, and the plan and the solved table for them.
-pub record Setting (tab plan : List ℕ) : Type 0 where
+pub record Setting (table plan : List ℕ) : Type 0 where
   pub thread : Thread
   pub id : ThreadId
   pub n : ℕ
@@ -101,13 +102,13 @@ pub record Setting (tab plan : List ℕ) : Type 0 where
   pub fits : ThreadFits (statesIn plan) thread
   pub inside : Inside (statesIn plan) n (endsIn plan)
   pub planned : Planned thread id plan
-  pub summed : Summed thread (statesIn plan) n (endsIn plan) tab
+  pub summed : Summed thread (statesIn plan) n (endsIn plan) table
 
 -- The plan of a thread along a full line with n turn ends, and the table that is solved for them.
-pub record Known (t : Thread) (i : ThreadId) (G n : ℕ) (line tab plan : List ℕ) : Type 0 where
-  pub size : length tab ≡ size
+pub record Prepared (t : Thread) (id : ThreadId) (g n : ℕ) (line table plan : List ℕ) : Type 0 where
+  pub size : length table ≡ size
   pub range : InRange plan
-  pub planned : Planned t i plan
-  pub states : statesIn plan ≡ G
-  pub ends : (j : ℕ) → j < n → endsIn plan j ≡ endsOf i line j
-  pub summed : Inside G n (endsIn plan) → Summed t G n (endsIn plan) tab
+  pub planned : Planned t id plan
+  pub states : statesIn plan ≡ g
+  pub ends : (j : ℕ) → j < n → endsIn plan j ≡ endsOf id line j
+  pub summed : Inside g n (endsIn plan) → Summed t g n (endsIn plan) table

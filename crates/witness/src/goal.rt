@@ -1,7 +1,7 @@
 // What the writers are asked for: a stretch (summary) from a control with a symbol on top to a destination.
 ghost use mathlib.Core.Path.{_≡_};
 ghost use Prim.Native.Nat.{_≤_};
-ghost use Rattle.witness.specs.Goals.{movedTo, entered, goneAt, restAt};
+ghost use Rattle.witness.specs.Goals.{movedTo, enteredAt, goneAt, restAt};
 
 // From `passed` turn ends of the thread and state `shared`, with `symbol` on top, to `until` turn ends and a destination:
 // 0 to 3 is gone at a state, 4 to 7 still there.
@@ -30,7 +30,7 @@ impl Goal {
     // After the end of the turn, where the next one starts in state h.
     pub fn entered(self, h: usize) -> Goal
         requires { ⌜ self .passed ≤ 2 ⌝ }
-        ensures { λ r. ⌜ r ≡ entered self h ⌝ }
+        ensures { λ r. ⌜ r ≡ enteredAt self h ⌝ }
     {
         Goal {
             passed: self.passed + 1,

@@ -4,7 +4,7 @@ ghost use lib.ListN.{length};
 ghost use Rattle.model.specs.Fits.{Fits};
 ghost use Rattle.model.specs.Lines.{digits};
 ghost use Rattle.model.specs.Runs.{Turns};
-ghost use Rattle.model.specs.Schedules.{Stored};
+ghost use Rattle.model.specs.Schedules.{mostBytes, Stored};
 ghost use Rattle.model.specs.Walk.{startStacks};
 ghost use Rattle.witness.specs.Chosen.{Chosen};
 
@@ -17,12 +17,13 @@ mod steps;
 mod stretch;
 mod tight;
 
+use model::MOST_BYTES;
 use model::Model;
 use model::ThreadId;
 
 // Writes a shortest schedule along the full line whose value is v, where x and y are the least steps of A and of B along it.
 pub fn write(m: Model, v: usize, x: u64, y: u64, schedule: &mut [u8])
-    requires { ⌜ Fits m ⌝ ∗ ⌜ Chosen m v x y ⌝ ∗ ⌜ 8190 ≤ length (now schedule) ⌝ }
+    requires { ⌜ Fits m ⌝ ∗ ⌜ Chosen m v x y ⌝ ∗ ⌜ mostBytes ≤ length (now schedule) ⌝ }
     ensures { λ _. ⌜
         Stored (Turns m 0 (m .start .0) (startStacks m) (digits (m .g) (2 * m .k) v)) (x + y) 0
         (now (schedule .entry)) (now (schedule .exit))
@@ -31,8 +32,8 @@ pub fn write(m: Model, v: usize, x: u64, y: u64, schedule: &mut [u8])
     let g = m.g as usize;
     let n = m.k as usize - 1;
     let start = m.start.0 as usize;
-    let mut a = [0u8; 8190];
-    let mut b = [0u8; 8190];
+    let mut a = [0u8; MOST_BYTES];
+    let mut b = [0u8; MOST_BYTES];
     steps::steps(m.a, g, n, ThreadId::A, start, v, x as usize, &mut a);
     steps::steps(m.b, g, n, ThreadId::B, start, v, y as usize, &mut b);
     let end_a = 2 * x as usize;

@@ -5,13 +5,13 @@ ghost use Prim.Native.Nat.{_+_, _*_, _/_, _≤_, _<_};
 ghost use lib.ListN.{length};
 ghost use lib.Seq.{sets};
 ghost use Rattle.model.specs.Schedules.{bytesOf, stepsOf, stepAt};
-ghost use Rattle.witness.specs.Merge.{merge as mergeOf, Next};
+ghost use Rattle.witness.specs.Merge.{merged, Next};
 
 // Writes the steps of a and those of b, the lower turn first.
 pub fn merge(a: &[u8], b: &[u8], out: &mut [u8])
     requires { ⌜ length (now a) + length (now b) ≤ length (now out) ⌝ }
     ensures { λ _. ⌜ now (out .exit) ≡
-        sets (now (out .entry)) 0 (bytesOf (mergeOf (stepsOf (now (a .entry))) (stepsOf (now (b .entry))))) ⌝ }
+        sets (now (out .entry)) 0 (bytesOf (merged (stepsOf (now (a .entry))) (stepsOf (now (b .entry))))) ⌝ }
 {
     let count = a.len() / 2 + b.len() / 2;
     let mut i = 0;

@@ -6,7 +6,7 @@ use model::Right;
 ghost use mathlib.Core.Path.{_≡_};
 ghost use Prim.Native.Nat.{_+_, _≤_, _<_};
 ghost use lib.ListN.{length, set};
-ghost use Rattle.witness.specs.Goals.{entered, Goes};
+ghost use Rattle.witness.specs.Goals.{enteredAt, Goes};
 ghost use Rattle.witness.specs.Plan.{rulesIn, turnIn, endsIn, InRange};
 
 // What is left after a rule: nothing, a stretch, or a pair with the symbol below.
@@ -34,7 +34,7 @@ pub fn after_step(plan: &[u8], goal: Goal, r: usize) -> Onward
 // The goal after the end of the turn.
 pub fn next_turn(plan: &[u8], goal: Goal) -> Goal
     requires { ⌜ InRange (now plan) ⌝ ∗ ⌜ goal .passed < 2 ⌝ }
-    ensures { λ r. ⌜ r ≡ entered goal (endsIn (now (plan .entry)) (goal .passed) .enter) ⌝ }
+    ensures { λ r. ⌜ r ≡ enteredAt goal (endsIn (now (plan .entry)) (goal .passed) .enter) ⌝ }
 {
     let h = byte(plan, 3 + 2 * goal.passed);
     goal.entered(h)

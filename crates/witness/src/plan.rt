@@ -19,6 +19,9 @@ ghost use Rattle.model.specs.Rules.{ruleAt};
 ghost use Rattle.costs.specs.Ends.{endsOf};
 ghost use Rattle.witness.specs.Plan.{planSize, statesIn, endsIn, rightIn, ruleIn, ruleBytes, headBytes, InRange, Planned};
 
+// How many bytes a plan has: eight, and six for each of 64 rules.
+pub const PLAN_SIZE: usize = 392;
+
 // The byte at a place, as a number.
 pub fn byte(plan: &[u8], i: usize) -> usize
     requires { ⌜ i < length (now plan) ⌝ }
@@ -27,6 +30,7 @@ pub fn byte(plan: &[u8], i: usize) -> usize
     wide(plan[i])
 }
 
+// A byte as a number.
 fn wide(b: u8) -> usize
     ensures { λ r. ⌜ (r ≡ b) × (r < 256) ⌝ }
 {

@@ -11,22 +11,22 @@ ghost use Rattle.summary.specs.Cells.{size};
 ghost use Rattle.summary.specs.Control.{TurnEnd, Inside, Summed};
 
 // Solves the table of a thread for n turn ends, of which the first is (o, i).
-pub fn solve(t: &mut [u64], g: usize, n: usize, o: usize, i: usize, th: Thread)
+pub fn solve(table: &mut [u64], g: usize, n: usize, o: usize, i: usize, th: Thread)
     requires { ⌜
-        (length (now t) ≡ size) × (g ≤ 4) × (n ≤ 2) × (o < 4) × (i < 4) × ThreadFits g th
+        (length (now table) ≡ size) × (g ≤ 4) × (n ≤ 2) × (o < 4) × (i < 4) × ThreadFits g th
         ⌝ }
     ensures { λ _. ⌜
         ((ends : ℕ → TurnEnd) → Inside g n ends → ends 0 .leave ≡ o → ends 0 .enter ≡ i
-        → Summed th g n ends (now (t .exit)))
+        → Summed th g n ends (now (table .exit)))
         ⌝ }
 {
-    close_plain(t, g, th);
+    close_plain(table, g, th);
     if n == 0 {
         return;
     }
-    close_first(t, g, th);
+    close_first(table, g, th);
     if n == 1 {
         return;
     }
-    close_second(t, g, o, i, th);
+    close_second(table, g, o, i, th);
 }

@@ -1,6 +1,7 @@
 // One thread's steps along a line: its table is solved for the line's turn ends, and the first symbol above the floor, which
 // no rule takes, is an ordinary pair.
 use crate::goal::Goal;
+use crate::plan::PLAN_SIZE;
 use crate::plan::byte;
 use crate::plan::make;
 use crate::solve::solve;
@@ -10,16 +11,17 @@ use costs::parts::state_at;
 use costs::parts::turn_of;
 use model::Thread;
 use model::ThreadId;
+use summary::cells::SIZE;
 ghost use mathlib.Core.Path.{_≡_};
 ghost use Prim.Native.Nat.{suc, _*_, _^_, _≤_, _<_};
 ghost use lib.ListN.{length};
 ghost use Rattle.model.specs.Fits.{ThreadFits};
 ghost use Rattle.model.specs.Lines.{digits};
-ghost use Rattle.model.specs.Schedules.{Stored};
+ghost use Rattle.model.specs.Schedules.{mostSteps, Stored};
 ghost use Rattle.costs.specs.Cost.{RunAlong, LeastAlong};
 ghost use Rattle.summary.specs.Cells.{size};
 ghost use Rattle.witness.specs.Goals.{Starts};
-ghost use Rattle.witness.specs.Plan.{Known};
+ghost use Rattle.witness.specs.Plan.{planSize, Prepared};
 
 // Writes a thread's steps along the full line whose value is v, with n turn ends: `count`, the least there are.
 pub fn steps(
@@ -34,29 +36,37 @@ pub fn steps(
 )
     requires { ⌜ (1 ≤ g) × (g ≤ 4) × (n ≤ 2) × (start < g) × (v < g ^ (2 * suc n)) × ThreadFits g th ⌝
         ∗ ⌜
-        LeastAlong th id n start (digits g (2 * suc n) v) count × (count ≤ 4095) × (2 * count ≤ length (now out))
+        LeastAlong th id n start (digits g (2 * suc n) v) count × (count ≤ mostSteps) × (2 * count ≤ length (now out))
         ⌝ }
     ensures { λ _. ⌜
         Stored (RunAlong th id n start (digits g (2 * suc n) v)) count 0 (now (out .entry)) (now (out .exit))
         ⌝ }
 {
-    let mut table = [0u64; 17952];
-    let mut plan = [0u8; 392];
+    let mut table = [0u64; SIZE];
+    let mut plan = [0u8; PLAN_SIZE];
     prepare(&mut table, &mut plan, th, g, n, id, v);
     let goal = start_goal(g, n, id, start, v, th.first.0 as usize);
     pair(&table, &plan, goal, 16, count, out, 0);
 }
 
 // The plan of a thread along a line, and the table solved for the line's turn ends.
-fn prepare(t: &mut [u64], plan: &mut [u8], th: Thread, g: usize, n: usize, id: ThreadId, v: usize)
-    requires { ⌜ (length (now t) ≡ size) × (length (now plan) ≡ 392) ⌝
+fn prepare(
+    table: &mut [u64],
+    plan: &mut [u8],
+    th: Thread,
+    g: usize,
+    n: usize,
+    id: ThreadId,
+    v: usize,
+)
+    requires { ⌜ (length (now table) ≡ size) × (length (now plan) ≡ planSize) ⌝
         ∗ ⌜ (1 ≤ g) × (g ≤ 4) × (n ≤ 2) × (v < g ^ (2 * suc n)) × ThreadFits g th ⌝ }
-    ensures { λ _. ⌜ Known th id g n (digits g (2 * suc n) v) (now (t .exit)) (now (plan .exit)) ⌝ }
+    ensures { λ _. ⌜ Prepared th id g n (digits g (2 * suc n) v) (now (table .exit)) (now (plan .exit)) ⌝ }
 {
     make(plan, th, g, n, id, v);
     let o = byte(plan, 2);
     let i = byte(plan, 3);
-    solve(t, g, n, o, i, th);
+    solve(table, g, n, o, i, th);
 }
 
 // From the state in which the thread's first turn starts, to the end of its last turn with something on its stack, be it the

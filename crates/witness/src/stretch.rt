@@ -13,43 +13,43 @@ use crate::tight::middle;
 ghost use mathlib.Core.Path.{_≡_};
 ghost use Prim.Native.Nat.{_+_, _*_, _≤_};
 ghost use lib.ListN.{length};
-ghost use Rattle.model.specs.Schedules.{Stored};
+ghost use Rattle.model.specs.Schedules.{mostSteps, Stored};
 ghost use Rattle.summary.specs.Control.{Control};
 ghost use Rattle.summary.specs.Stretch.{End};
-ghost use Rattle.witness.specs.Goals.{from, entryOf, Ready, Splits, Stands, Stretches, Pairs};
+ghost use Rattle.witness.specs.Goals.{from, entryOf, Ready, Splits, EndsAt, Stretches, Pairs};
 ghost use Rattle.witness.specs.Plan.{Setting};
 
 // Writes the steps of a stretch from place `at` on: just so many as the table says, which is `count`.
-pub fn stretch(t: &[u64], plan: &[u8], goal: Goal, count: usize, out: &mut [u8], at: usize)
-    requires { ⌜ Ready (now t) (now plan) goal ⌝ ∗ ⌜ (count ≤ 4095) × (at + 2 * count ≤ length (now out)) ⌝ }
+pub fn stretch(table: &[u64], plan: &[u8], goal: Goal, count: usize, out: &mut [u8], at: usize)
+    requires { ⌜ Ready (now table) (now plan) goal ⌝ ∗ ⌜ (count ≤ mostSteps) × (at + 2 * count ≤ length (now out)) ⌝ }
     ensures { λ _. ⌜
-        ((w : Setting (now (t .entry)) (now (plan .entry))) (d : End Control) → Stands w goal d
-        → entryOf (now (t .entry)) (now (plan .entry)) goal ≡ count
+        ((w : Setting (now (table .entry)) (now (plan .entry))) (d : End Control) → EndsAt w goal d
+        → entryOf (now (table .entry)) (now (plan .entry)) goal ≡ count
         → Stored (Stretches w (from goal) (goal .symbol) d) count at (now (out .entry)) (now (out .exit)))
         ⌝ }
 {
     if count == 0 {
         return;
     }
-    let r = first_rule(t, plan, goal, count);
+    let r = first_rule(table, plan, goal, count);
     if r == byte(plan, 6) {
         // no step is tight, so the turn ends here
         if goal.passed < goal.until {
-            stretch(t, plan, next_turn(plan, goal), count, out, at);
+            stretch(table, plan, next_turn(plan, goal), count, out, at);
         }
         return;
     }
     put_step(plan, goal.passed, r, out, at);
     match after_step(plan, goal, r) {
         Onward::Done => {}
-        Onward::One(next) => stretch(t, plan, next, count - 1, out, at + 2),
-        Onward::Two(next, below) => pair(t, plan, next, below, count - 1, out, at + 2),
+        Onward::One(next) => stretch(table, plan, next, count - 1, out, at + 2),
+        Onward::Two(next, below) => pair(table, plan, next, below, count - 1, out, at + 2),
     }
 }
 
 // Writes the steps of a pair, the goal being its first symbol's and `below` its second.
 pub fn pair(
-    t: &[u64],
+    table: &[u64],
     plan: &[u8],
     goal: Goal,
     below: usize,
@@ -57,24 +57,24 @@ pub fn pair(
     out: &mut [u8],
     at: usize,
 )
-    requires { ⌜ Ready (now t) (now plan) goal ⌝
-        ∗ ⌜ (below ≤ 16) × (count ≤ 4095) × (at + 2 * count ≤ length (now out)) ⌝ }
+    requires { ⌜ Ready (now table) (now plan) goal ⌝
+        ∗ ⌜ (below ≤ 16) × (count ≤ mostSteps) × (at + 2 * count ≤ length (now out)) ⌝ }
     ensures { λ _. ⌜
-        ((w : Setting (now (t .entry)) (now (plan .entry))) (d : End Control) → Stands w goal d
-        → Splits (now (t .entry)) (now (plan .entry)) goal below count
+        ((w : Setting (now (table .entry)) (now (plan .entry))) (d : End Control) → EndsAt w goal d
+        → Splits (now (table .entry)) (now (plan .entry)) goal below count
         → Stored (Pairs w (from goal) (goal .symbol) below d) count at (now (out .entry)) (now (out .exit)))
         ⌝ }
 {
-    if above(t, plan, goal, count) {
-        stretch(t, plan, goal, count, out, at);
+    if above(table, plan, goal, count) {
+        stretch(table, plan, goal, count, out, at);
         return;
     }
-    let y = middle(t, plan, goal, below, count);
+    let y = middle(table, plan, goal, below, count);
     if y < 12 {
         let first = goal.gone_at(y);
-        let n = entry_of(t, plan, first);
-        stretch(t, plan, first, n, out, at);
+        let steps = entry_of(table, plan, first);
+        stretch(table, plan, first, steps, out, at);
         let rest = goal.rest_at(below, y);
-        stretch(t, plan, rest, count - n, out, at + 2 * n);
+        stretch(table, plan, rest, count - steps, out, at + 2 * steps);
     }
 }

@@ -6,41 +6,43 @@ use costs::line::entry_at;
 use costs::line::lane_to;
 use model::Right;
 use model::Rule;
+use summary::UNREACHED;
 ghost use mathlib.Core.Path.{_≡_};
 ghost use Prim.Native.Nat.{ℕ, _+_, _≤_, _<_};
 ghost use Rattle.model.specs.Fits.{RuleFits, RightFits};
+ghost use Rattle.model.specs.Schedules.{mostSteps};
 ghost use Rattle.costs.specs.Lanes.{endLane};
 ghost use Rattle.witness.specs.Goals.{entryOf, Ready, Says, Sums, Splits, TightBy, Tight};
 ghost use Rattle.witness.specs.Plan.{rulesIn, ruleIn, endsIn, InRange};
 
 // The first rule that is a tight first step; the number of rules where none is.
-pub fn first_rule(t: &[u64], plan: &[u8], goal: Goal, count: usize) -> usize
-    requires { ⌜ Ready (now t) (now plan) goal ⌝ ∗ ⌜ (0 < count) × (count ≤ 4095) ⌝ }
+pub fn first_rule(table: &[u64], plan: &[u8], goal: Goal, count: usize) -> usize
+    requires { ⌜ Ready (now table) (now plan) goal ⌝ ∗ ⌜ (0 < count) × (count ≤ mostSteps) ⌝ }
     ensures tight { λ r. ⌜
         (r < rulesIn (now (plan .entry))
-        → Tight (now (t .entry)) (now (plan .entry)) goal count (ruleIn (now (plan .entry)) r))
+        → Tight (now (table .entry)) (now (plan .entry)) goal count (ruleIn (now (plan .entry)) r))
         ⌝ }
     ensures none { λ r. ⌜
-        ((i : ℕ) → i < r → Tight (now (t .entry)) (now (plan .entry)) goal count (ruleIn (now (plan .entry)) i) → ⊥)
+        ((i : ℕ) → i < r → Tight (now (table .entry)) (now (plan .entry)) goal count (ruleIn (now (plan .entry)) i) → ⊥)
         × (r ≤ rulesIn (now (plan .entry)))
         ⌝ }
 {
-    let n = byte(plan, 6);
+    let rules = byte(plan, 6);
     let mut r = 0;
-    while r < n {
+    while r < rules {
         let rule = rule_of(plan, r);
-        if suits(t, plan, goal, count, rule) {
+        if suits(table, plan, goal, count, rule) {
             return r;
         }
         r += 1;
     }
-    n
+    rules
 }
 
 // Whether a rule is a tight first step.
-fn suits(t: &[u64], plan: &[u8], goal: Goal, count: usize, rule: Rule) -> bool
-    requires { ⌜ Ready (now t) (now plan) goal ⌝ ∗ ⌜ (0 < count) × (count ≤ 4095) × RuleFits 4 rule ⌝ }
-    ensures { λ r. ⌜ Says r (Tight (now (t .entry)) (now (plan .entry)) goal count rule) ⌝ }
+fn suits(table: &[u64], plan: &[u8], goal: Goal, count: usize, rule: Rule) -> bool
+    requires { ⌜ Ready (now table) (now plan) goal ⌝ ∗ ⌜ (0 < count) × (count ≤ mostSteps) × RuleFits 4 rule ⌝ }
+    ensures { λ r. ⌜ Says r (Tight (now (table .entry)) (now (plan .entry)) goal count rule) ⌝ }
 {
     if rule.before.0 as usize != goal.shared {
         return false;
@@ -50,23 +52,23 @@ fn suits(t: &[u64], plan: &[u8], goal: Goal, count: usize, rule: Rule) -> bool
     }
     let h = rule.after.0 as usize;
     let right = rule.right;
-    suits_by(t, plan, goal, count, h, right)
+    suits_by(table, plan, goal, count, h, right)
 }
 
 // The same of a rule that applies, by its right side.
-fn suits_by(t: &[u64], plan: &[u8], goal: Goal, count: usize, h: usize, right: Right) -> bool
-    requires { ⌜ Ready (now t) (now plan) goal ⌝ ∗ ⌜ (0 < count) × (count ≤ 4095) × (h < 4) × RightFits right ⌝ }
-    ensures { λ r. ⌜ Says r (TightBy (now (t .entry)) (now (plan .entry)) goal count h right) ⌝ }
+fn suits_by(table: &[u64], plan: &[u8], goal: Goal, count: usize, h: usize, right: Right) -> bool
+    requires { ⌜ Ready (now table) (now plan) goal ⌝ ∗ ⌜ (0 < count) × (count ≤ mostSteps) × (h < 4) × RightFits right ⌝ }
+    ensures { λ r. ⌜ Says r (TightBy (now (table .entry)) (now (plan .entry)) goal count h right) ⌝ }
 {
     match right {
         Right::Remove => removes(goal, count, h),
         Right::Swap(a) => {
             let next = goal.moved(h, a.0 as usize);
-            entry_of(t, plan, next) == count - 1
+            entry_of(table, plan, next) == count - 1
         }
         Right::Push(a, b) => {
             let next = goal.moved(h, a.0 as usize);
-            splits(t, plan, next, b.0 as usize, count - 1)
+            splits(table, plan, next, b.0 as usize, count - 1)
         }
     }
 }
@@ -85,38 +87,38 @@ fn removes(goal: Goal, count: usize, h: usize) -> bool
 }
 
 // Whether a pair can be had in just so many steps.
-fn splits(t: &[u64], plan: &[u8], goal: Goal, below: usize, count: usize) -> bool
-    requires { ⌜ Ready (now t) (now plan) goal ⌝ ∗ ⌜ (below ≤ 16) × (count ≤ 4095) ⌝ }
-    ensures { λ r. ⌜ Says r (Splits (now (t .entry)) (now (plan .entry)) goal below count) ⌝ }
+fn splits(table: &[u64], plan: &[u8], goal: Goal, below: usize, count: usize) -> bool
+    requires { ⌜ Ready (now table) (now plan) goal ⌝ ∗ ⌜ (below ≤ 16) × (count ≤ mostSteps) ⌝ }
+    ensures { λ r. ⌜ Says r (Splits (now (table .entry)) (now (plan .entry)) goal below count) ⌝ }
 {
-    if above(t, plan, goal, count) {
+    if above(table, plan, goal, count) {
         return true;
     }
-    middle(t, plan, goal, below, count) < 12
+    middle(table, plan, goal, below, count) < 12
 }
 
 // Whether a pair can be had without touching its second symbol.
-pub fn above(t: &[u64], plan: &[u8], goal: Goal, count: usize) -> bool
-    requires { ⌜ Ready (now t) (now plan) goal ⌝ }
-    ensures { λ r. ⌜ Says r ((4 ≤ goal .dest) × (entryOf (now (t .entry)) (now (plan .entry)) goal ≡ count)) ⌝ }
+pub fn above(table: &[u64], plan: &[u8], goal: Goal, count: usize) -> bool
+    requires { ⌜ Ready (now table) (now plan) goal ⌝ }
+    ensures { λ r. ⌜ Says r ((4 ≤ goal .dest) × (entryOf (now (table .entry)) (now (plan .entry)) goal ≡ count)) ⌝ }
 {
     if goal.dest < 4 {
         return false;
     }
-    entry_of(t, plan, goal) == count
+    entry_of(table, plan, goal) == count
 }
 
 // The first control at which the first symbol of a pair can be gone; 12 where there is none.
-pub fn middle(t: &[u64], plan: &[u8], goal: Goal, below: usize, count: usize) -> usize
-    requires { ⌜ Ready (now t) (now plan) goal ⌝ ∗ ⌜ (below ≤ 16) × (count ≤ 4095) ⌝ }
-    ensures sums { λ r. ⌜ (r < 12 → Sums (now (t .entry)) (now (plan .entry)) goal below count r) ⌝ }
+pub fn middle(table: &[u64], plan: &[u8], goal: Goal, below: usize, count: usize) -> usize
+    requires { ⌜ Ready (now table) (now plan) goal ⌝ ∗ ⌜ (below ≤ 16) × (count ≤ mostSteps) ⌝ }
+    ensures sums { λ r. ⌜ (r < 12 → Sums (now (table .entry)) (now (plan .entry)) goal below count r) ⌝ }
     ensures none { λ r. ⌜
-        ((y : ℕ) → y < r → Sums (now (t .entry)) (now (plan .entry)) goal below count y → ⊥) × (r ≤ 12)
+        ((y : ℕ) → y < r → Sums (now (table .entry)) (now (plan .entry)) goal below count y → ⊥) × (r ≤ 12)
         ⌝ }
 {
     let mut y = 0;
     while y < 12 {
-        if sums(t, plan, goal, below, count, y) {
+        if sums(table, plan, goal, below, count, y) {
             return y;
         }
         y += 1;
@@ -125,33 +127,33 @@ pub fn middle(t: &[u64], plan: &[u8], goal: Goal, below: usize, count: usize) ->
 }
 
 // Whether the first symbol of a pair can be gone at control y.
-fn sums(t: &[u64], plan: &[u8], goal: Goal, below: usize, count: usize, y: usize) -> bool
-    requires { ⌜ Ready (now t) (now plan) goal ⌝ ∗ ⌜ (below ≤ 16) × (count ≤ 4095) × (y < 12) ⌝ }
-    ensures { λ r. ⌜ Says r (Sums (now (t .entry)) (now (plan .entry)) goal below count y) ⌝ }
+fn sums(table: &[u64], plan: &[u8], goal: Goal, below: usize, count: usize, y: usize) -> bool
+    requires { ⌜ Ready (now table) (now plan) goal ⌝ ∗ ⌜ (below ≤ 16) × (count ≤ mostSteps) × (y < 12) ⌝ }
+    ensures { λ r. ⌜ Says r (Sums (now (table .entry)) (now (plan .entry)) goal below count y) ⌝ }
 {
     if byte(plan, 0) <= y % 4 {
         return false;
     }
-    let gone = entry_of(t, plan, goal.gone_at(y));
+    let gone = entry_of(table, plan, goal.gone_at(y));
     if count < gone {
         return false;
     }
-    entry_of(t, plan, goal.rest_at(below, y)) == count - gone
+    entry_of(table, plan, goal.rest_at(below, y)) == count - gone
 }
 
 // The count that the table has for a goal.
-pub fn entry_of(t: &[u64], plan: &[u8], goal: Goal) -> usize
-    requires { ⌜ Ready (now t) (now plan) goal ⌝ }
-    ensures { λ r. ⌜ r ≡ entryOf (now (t .entry)) (now (plan .entry)) goal ⌝ }
+pub fn entry_of(table: &[u64], plan: &[u8], goal: Goal) -> usize
+    requires { ⌜ Ready (now table) (now plan) goal ⌝ }
+    ensures { λ r. ⌜ r ≡ entryOf (now (table .entry)) (now (plan .entry)) goal ⌝ }
 {
     if goal.until < goal.passed {
-        return 4097;
+        return UNREACHED as usize;
     }
     let a = lane_in(plan, 0);
     let b = lane_in(plan, 1);
     let last = lane_to(goal.until, a, b);
     let gap = goal.until - goal.passed;
-    entry_at(t, gap, goal.shared, goal.symbol, goal.dest, last) as usize
+    entry_at(table, gap, goal.shared, goal.symbol, goal.dest, last) as usize
 }
 
 // The lane of turn end j.

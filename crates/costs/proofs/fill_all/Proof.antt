@@ -2,18 +2,18 @@
 use mathlib.Core.Path.{_≡_}
 use Prim.Native.Nat.{suc, _-_, _*_, _^_, _≤_}
 use borrow.Author.Needs.{needs}
-use Rattle.costs.specs.Lanes.{costOf}
+use Rattle.costs.specs.Lanes.{fullLines, costOf}
 use Rattle.costs.proofs.Filled.{full}
 use Rattle.costs.proofs.Front.{Front, front-start, front-next, front-all}
 use Rattle.costs.proofs.fill_all.Statement.{statement}
 use Rattle.costs.proofs.fill_all.Tie as tie
 
 abbrev Inv-loop : tie.InvT-loop
-Inv-loop t costs₀ g n id start top count v₀ costs v =
-    (count ≡ g ^ (2 * suc n)) × (count ≤ 4096) × (v ≤ count) × Front (λ v x. x ≡ costOf id t g n start top v) v costs₀ costs
+Inv-loop table costs₀ g n id start top count v₀ costs v =
+    (count ≡ g ^ (2 * suc n)) × (count ≤ fullLines) × (v ≤ count) × Front (λ v x. x ≡ costOf id table g n start top v) v costs₀ costs
 
 abbrev μ-loop : tie.MeasureT-loop
-μ-loop t costs₀ g n id start top count v₀ costs v = count - v
+μ-loop table costs₀ g n id start top count v₀ costs v = count - v
 
 mul-power : tie.Need-mul-power Inv-loop μ-loop
 mul-power c = search needs

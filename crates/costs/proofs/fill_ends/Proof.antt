@@ -10,12 +10,12 @@ use Rattle.costs.proofs.fill_ends.Statement.{statement}
 use Rattle.costs.proofs.fill_ends.Tie as tie
 
 abbrev Inv-loop : tie.InvT-loop
-Inv-loop t₀ costs₀ g id start th lanes o₀ t costs o =
-    (o ≤ g) × (length t ≡ length t₀) × (length costs ≡ length costs₀) × Solved (First th g) second t
+Inv-loop table₀ costs₀ g id start th lanes o₀ table costs o =
+    (o ≤ g) × (length table ≡ length table₀) × (length costs ≡ length costs₀) × Solved (First th g) second table
     × Known th id g start (o * 4) costs
 
 abbrev μ-loop : tie.MeasureT-loop
-μ-loop t₀ costs₀ g id start th lanes o₀ t costs o = g - o
+μ-loop table₀ costs₀ g id start th lanes o₀ table costs o = g - o
 
 slice-aggregate-find-lanes : tie.Need-slice-aggregate-find-lanes Inv-loop μ-loop
 slice-aggregate-find-lanes c = search needs

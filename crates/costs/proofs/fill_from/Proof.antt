@@ -10,12 +10,12 @@ use Rattle.costs.proofs.fill_from.Statement.{statement}
 use Rattle.costs.proofs.fill_from.Tie as tie
 
 abbrev Inv-loop : tie.InvT-loop
-Inv-loop t₀ costs₀ lanes g id start o th top i₀ t costs i =
-    (i ≤ g) × (length t ≡ length t₀) × (length costs ≡ length costs₀) × Solved (First th g) second t
+Inv-loop table₀ costs₀ lanes g id start o th top i₀ table costs i =
+    (i ≤ g) × (length table ≡ length table₀) × (length costs ≡ length costs₀) × Solved (First th g) second table
     × Known th id g start (o * 4 + i) costs
 
 abbrev μ-loop : tie.MeasureT-loop
-μ-loop t₀ costs₀ lanes g id start o th top i₀ t costs i = g - i
+μ-loop table₀ costs₀ lanes g id start o th top i₀ table costs i = g - i
 
 cast-top : tie.Need-cast-top Inv-loop μ-loop
 cast-top c = search needs

@@ -12,13 +12,13 @@ use Rattle.costs.proofs.fill_slice.Statement.{statement}
 use Rattle.costs.proofs.fill_slice.Tie as tie
 
 abbrev Inv-loop : tie.InvT-loop
-Inv-loop t costs₀ lanes g id start top lane count v₀ costs v =
+Inv-loop table costs₀ lanes g id start top lane count v₀ costs v =
     (v ≤ count)
-    × Front (λ v x. x ≡ cond (eqb (lineLane id g 6 v 0) lane) (costOf id t g 2 start top v) (getD costs₀ v 0)) v
+    × Front (λ v x. x ≡ cond (eqb (lineLane id g 6 v 0) lane) (costOf id table g 2 start top v) (getD costs₀ v 0)) v
     costs₀ costs
 
 abbrev μ-loop : tie.MeasureT-loop
-μ-loop t costs₀ lanes g id start top lane count v₀ costs v = count - v
+μ-loop table costs₀ lanes g id start top lane count v₀ costs v = count - v
 
 power-requires : tie.Need-power-requires Inv-loop μ-loop
 power-requires c κs = search needs

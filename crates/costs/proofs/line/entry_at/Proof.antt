@@ -5,8 +5,8 @@ use borrow.Author.Needs.{needs}
 use Rattle.costs.proofs.line.entry_at.Statement.{statement}
 use Rattle.costs.proofs.line.entry_at.Tie as tie
 
-place-requires : tie.Need-place-requires
-place-requires c κs = search needs
+plain-cell-requires : tie.Need-plain-cell-requires
+plain-cell-requires c κs = search needs
 
 mul-result : tie.Need-mul-result
 mul-result c = search needs
@@ -15,10 +15,10 @@ shared-slice-read-result : tie.Need-shared-slice-read-result
 shared-slice-read-result c = search needs
 
 returns : tie.Need-returns
-returns c = rw (c .before .before .if1 .taken, c .before .place .ensures)
+returns c = rw (c .before .before .if1 .taken, c .before .plain-cell .ensures)
 
-lane-place-requires : tie.Need-lane-place-requires
-lane-place-requires c κs = search needs
+lane-cell-requires : tie.Need-lane-cell-requires
+lane-cell-requires c κs = search needs
 
 add-result : tie.Need-add-result
 add-result c = search needs
@@ -30,10 +30,10 @@ shared-slice-read-result-2 : tie.Need-shared-slice-read-result-2
 shared-slice-read-result-2 c = search needs
 
 returns-2 : tie.Need-returns-2
-returns-2 c = rw (c .before .before .if2 .taken, c .before .lane-place .ensures)
+returns-2 c = rw (c .before .before .if2 .taken, c .before .lane-cell .ensures)
 
-lane-place-requires-2 : tie.Need-lane-place-requires-2
-lane-place-requires-2 c κs = search needs
+lane-cell-requires-2 : tie.Need-lane-cell-requires-2
+lane-cell-requires-2 c κs = search needs
 
 add-result-2 : tie.Need-add-result-2
 add-result-2 c = search needs
@@ -45,22 +45,22 @@ shared-slice-read-result-3 : tie.Need-shared-slice-read-result-3
 shared-slice-read-result-3 c = search needs
 
 returns-3 : tie.Need-returns-3
-returns-3 c = let two : c .before .before .before .before .before .args .gap ≡ 2 = omega arith in rw (two, c .before .lane-place2 .ensures)
+returns-3 c = let two : c .before .before .before .before .before .args .gap ≡ 2 = omega arith in rw (two, c .before .lane-cell2 .ensures)
 
 pub entry-at-spec : {M : Type 1} → statement M
 entry-at-spec =
     tie.close
     (tie.spec
-    place-requires
+    plain-cell-requires
     mul-result
     shared-slice-read-result
     returns
-    lane-place-requires
+    lane-cell-requires
     add-result
     mul-result-2
     shared-slice-read-result-2
     returns-2
-    lane-place-requires-2
+    lane-cell-requires-2
     add-result-2
     mul-result-3
     shared-slice-read-result-3

@@ -2,6 +2,7 @@
 use mathlib.Core.Path.{_∙_}
 use borrow.Author.Needs.{needs}
 use borrow.Author.Tests.{lt-leb}
+use Rattle.summary.specs.Table.{cap}
 use Rattle.costs.proofs.Entries.{best-first}
 use Rattle.summary.specs.Edges.{bestOf}
 use Rattle.costs.proofs.line.joined.Statement.{statement}
@@ -9,7 +10,7 @@ use Rattle.costs.proofs.line.joined.Tie as tie
 
 returns : tie.Need-returns
 unfolding bestOf
-returns c = rw (lt-leb _ 4096 (c .if1 .taken))
+returns c = rw (lt-leb _ cap (c .if1 .taken))
 
 better-requires : tie.Need-better-requires
 better-requires c κs = search needs

@@ -11,13 +11,13 @@ use Rattle.costs.proofs.line.over_states.Statement.{statement}
 use Rattle.costs.proofs.line.over_states.Tie as tie
 
 abbrev Inv-loop : tie.InvT-loop
-Inv-loop t g n j from top to before last old best₀ s₀ best s =
-    (s ≤ g)
+Inv-loop table g n j from top to before last old best₀ q₀ best q =
+    (q ≤ g)
     × ((ends : ℕ → TurnEnd) → LaneTo ends j before → LaneTo ends n last
-    → best ≡ overStates ends t (control 0 from) top (control n to) j s old)
+    → best ≡ overStates ends table (control 0 from) top (control n to) j q old)
 
 abbrev μ-loop : tie.MeasureT-loop
-μ-loop t g n j from top to before last old best₀ s₀ best s = g - s
+μ-loop table g n j from top to before last old best₀ q₀ best q = g - q
 
 loop-holds : tie.Need-loop-holds Inv-loop μ-loop
 unfolding overStates
@@ -38,8 +38,8 @@ entry-at-requires-2 c κs = search needs
 joined-requires : tie.Need-joined-requires Inv-loop μ-loop
 joined-requires c κs = search needs
 
-add-s : tie.Need-add-s Inv-loop μ-loop
-add-s c = search needs
+add-q : tie.Need-add-q Inv-loop μ-loop
+add-q c = search needs
 
 loop-less : tie.Need-loop-less Inv-loop μ-loop
 loop-less c = search needs
@@ -68,7 +68,7 @@ over-states-spec =
     add-entry-at
     entry-at-requires-2
     joined-requires
-    add-s
+    add-q
     loop-less
     loop-again
     returns)

@@ -11,13 +11,13 @@ use Rattle.costs.proofs.line.pair_cost.Statement.{statement}
 use Rattle.costs.proofs.line.pair_cost.Tie as tie
 
 abbrev Inv-loop : tie.InvT-loop
-Inv-loop t g n from top to a b last best₀ j₀ best j =
+Inv-loop table g n from top to a b last best₀ j₀ best j =
     (j ≤ n + 1)
     × ((ends : ℕ → TurnEnd) → a ≡ endLane ends 0 → b ≡ endLane ends 1
-    → best ≡ overTurns ends t (control 0 from) top (control n to) g j)
+    → best ≡ overTurns ends table (control 0 from) top (control n to) g j)
 
 abbrev μ-loop : tie.MeasureT-loop
-μ-loop t g n from top to a b last best₀ j₀ best j = n + 1 - j
+μ-loop table g n from top to a b last best₀ j₀ best j = n + 1 - j
 
 lane-to-requires : tie.Need-lane-to-requires Inv-loop μ-loop
 lane-to-requires c κs = search needs

@@ -11,10 +11,10 @@ use Rattle.costs.proofs.parts.power.Statement.{statement}
 use Rattle.costs.proofs.parts.power.Tie as tie
 
 abbrev Inv-loop : tie.InvT-loop
-Inv-loop g k r₀ i₀ r i = (i ≤ k) × (r ≡ g ^ i)
+Inv-loop g len r₀ i₀ r i = (i ≤ len) × (r ≡ g ^ i)
 
 abbrev μ-loop : tie.MeasureT-loop
-μ-loop g k r₀ i₀ r i = k - i
+μ-loop g len r₀ i₀ r i = len - i
 
 loop-holds : tie.Need-loop-holds Inv-loop μ-loop
 loop-holds c = (search needs, sym (pow-zero _))

@@ -4,13 +4,14 @@ use Prim.Native.Nat.{_-_, _*_, _^_, _≤_}
 use native.Mathlib.Nat.{le-antisymm}
 use borrow.Author.Needs.{needs}
 use Rattle.judge.specs.Best.{Best}
+use Rattle.costs.specs.Lanes.{fullLines}
 use Rattle.judge.proofs.Choices.{best-none}
 use Rattle.judge.proofs.choose.choose.Statement.{statement}
 use Rattle.judge.proofs.choose.choose.Tie as tie
 
 abbrev Inv-loop : tie.InvT-loop
 Inv-loop g k target a b count best₀ v₀ best v =
-    (count ≡ g ^ (2 * k)) × (count ≤ 4096) × (v ≤ count) × Best g target v a b best
+    (count ≡ g ^ (2 * k)) × (count ≤ fullLines) × (v ≤ count) × Best g target v a b best
 
 abbrev μ-loop : tie.MeasureT-loop
 μ-loop g k target a b count best₀ v₀ best v = count - v

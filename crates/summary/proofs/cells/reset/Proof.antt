@@ -8,10 +8,10 @@ use Rattle.summary.proofs.cells.reset.Statement.{statement}
 use Rattle.summary.proofs.cells.reset.Tie as tie
 
 abbrev Inv-loop : tie.InvT-loop
-Inv-loop t₀ from to i₀ t i = (from ≤ i) × (i ≤ to) × Reset from i t₀ t
+Inv-loop table₀ from to i₀ table i = (from ≤ i) × (i ≤ to) × Reset from i table₀ table
 
 abbrev μ-loop : tie.MeasureT-loop
-μ-loop t₀ from to i₀ t i = to - i
+μ-loop table₀ from to i₀ table i = to - i
 
 loop-holds : tie.Need-loop-holds Inv-loop μ-loop
 loop-holds c = (search needs, search needs, reset-start _ _)
@@ -19,11 +19,11 @@ loop-holds c = (search needs, search needs, reset-start _ _)
 blank-at-requires : tie.Need-blank-at-requires Inv-loop μ-loop
 blank-at-requires c κs = search needs
 
-mul-t : tie.Need-mul-t Inv-loop μ-loop
-mul-t c = search needs
+mul-table : tie.Need-mul-table Inv-loop μ-loop
+mul-table c = search needs
 
-slice-write-t : tie.Need-slice-write-t Inv-loop μ-loop
-slice-write-t c = search needs
+slice-write-table : tie.Need-slice-write-table Inv-loop μ-loop
+slice-write-table c = search needs
 
 add-i : tie.Need-add-i Inv-loop μ-loop
 add-i c = search needs
@@ -50,8 +50,8 @@ reset-spec =
     μ-loop
     loop-holds
     blank-at-requires
-    mul-t
-    slice-write-t
+    mul-table
+    slice-write-table
     add-i
     loop-less
     loop-again

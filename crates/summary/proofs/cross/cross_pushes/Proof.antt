@@ -8,26 +8,26 @@ use Rattle.summary.proofs.cross.cross_pushes.Statement.{statement}
 use Rattle.summary.proofs.cross.cross_pushes.Tie as tie
 
 abbrev Inv-loop : tie.InvT-loop
-Inv-loop t₀ l n g s h a b changes₀ q₀ t changes q =
-    Turning 128 (λ q. Row 1 (lane second g s 0) (lane first h a q + l) (lane first q b 0) 128) n t₀ t changes q
+Inv-loop table₀ l g p top h a b changes₀ q₀ table changes q =
+    Turning 128 (λ q. Row 1 (lane second p top 0) (lane first h a q + l) (lane first q b 0) 128) g table₀ table changes q
 
 abbrev μ-loop : tie.MeasureT-loop
-μ-loop t₀ l n g s h a b changes₀ q₀ t changes q = n - q
+μ-loop table₀ l g p top h a b changes₀ q₀ table changes q = g - q
 
 loop-holds : tie.Need-loop-holds Inv-loop μ-loop
 loop-holds c = starts _ _ _ _
 
-lane-place-requires : tie.Need-lane-place-requires Inv-loop μ-loop
-lane-place-requires c κs = search needs
+lane-cell-requires : tie.Need-lane-cell-requires Inv-loop μ-loop
+lane-cell-requires c κs = search needs
 
-lane-place-requires-2 : tie.Need-lane-place-requires-2 Inv-loop μ-loop
-lane-place-requires-2 c κs = search needs
+lane-cell-requires-2 : tie.Need-lane-cell-requires-2 Inv-loop μ-loop
+lane-cell-requires-2 c κs = search needs
 
 add-row : tie.Need-add-row Inv-loop μ-loop
 add-row c = search needs
 
-lane-place-requires-3 : tie.Need-lane-place-requires-3 Inv-loop μ-loop
-lane-place-requires-3 c κs = search needs
+lane-cell-requires-3 : tie.Need-lane-cell-requires-3 Inv-loop μ-loop
+lane-cell-requires-3 c κs = search needs
 
 row-requires : tie.Need-row-requires Inv-loop μ-loop
 row-requires c κs = search needs
@@ -45,12 +45,12 @@ loop-again : tie.Need-loop-again Inv-loop μ-loop
 loop-again c =
     let loop = c .before .before .before .before .before .before .before .before .loop in
     let loop-test = c .before .before .before .before .before .before .before .loop-test in
-    let lane-place = c .before .before .before .before .before .lane-place in
-    let lane-place2 = c .before .before .before .before .lane-place2 in
-    let lane-place3 = c .before .before .before .lane-place3 in
+    let lane-cell = c .before .before .before .before .before .lane-cell in
+    let lane-cell2 = c .before .before .before .before .lane-cell2 in
+    let lane-cell3 = c .before .before .before .lane-cell3 in
     let row = c .before .before .row in
     turns (loop .inv) (loop-test .taken)
-    (rw (lane-place .ensures, lane-place2 .ensures, lane-place3 .ensures) at (row .ensures .0)) (row .ensures .1)
+    (rw (lane-cell .ensures, lane-cell2 .ensures, lane-cell3 .ensures) at (row .ensures .0)) (row .ensures .1)
 
 same-length : tie.Need-same-length Inv-loop μ-loop
 same-length c = search needs
@@ -65,10 +65,10 @@ cross-pushes-spec =
     Inv-loop
     μ-loop
     loop-holds
-    lane-place-requires
-    lane-place-requires-2
+    lane-cell-requires
+    lane-cell-requires-2
     add-row
-    lane-place-requires-3
+    lane-cell-requires-3
     row-requires
     add-changes
     add-q

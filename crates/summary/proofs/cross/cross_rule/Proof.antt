@@ -1,15 +1,15 @@
 -- `cross_rule` meets its contract: only a push has edges.
 use native.Mathlib.Omega.{arith}
 use borrow.Author.Needs.{needs}
-use Rattle.summary.proofs.Relaxing.{loop-start}
+use Rattle.summary.proofs.Relaxing.{unchanged}
 use Rattle.summary.proofs.cross.cross_rule.Statement.{statement}
 use Rattle.summary.proofs.cross.cross_rule.Tie as tie
 
-cast-g : tie.Need-cast-g
-cast-g c = search needs
+cast-p : tie.Need-cast-p
+cast-p c = search needs
 
-cast-s : tie.Need-cast-s
-cast-s c = search needs
+cast-top : tie.Need-cast-top
+cast-top c = search needs
 
 cast-h : tie.Need-cast-h
 cast-h c = search needs
@@ -36,10 +36,10 @@ cross-pushes-requires c κs =
     omega (arith, rw (right .given .1) at (pre .3 .symbols))
 
 returns : tie.Need-returns
-returns c = (rw (c .enum-told .given .1) (loop-start _ _), omega arith)
+returns c = (rw (c .enum-told .given .1) (unchanged _), omega arith)
 
 returns-2 : tie.Need-returns-2
-returns-2 c = (rw (c .enum-told2 .given .1) (loop-start _ _), omega arith)
+returns-2 c = (rw (c .enum-told2 .given .1) (unchanged _), omega arith)
 
 same-length : tie.Need-same-length
 same-length c = search needs
@@ -54,8 +54,8 @@ pub cross-rule-spec : {M : Type 1} → statement M
 cross-rule-spec =
     tie.close
     (tie.spec
-    cast-g
-    cast-s
+    cast-p
+    cast-top
     cast-h
     enum-told
     enum-told-2

@@ -4,6 +4,7 @@ use borrow.Author.Needs.{needs}
 use borrow.Author.Tests.{le-leb}
 use Rattle.model.proofs.Tests.{decided}
 use Rattle.summary.specs.Edges.{bestOf}
+use Rattle.summary.specs.Table.{cap}
 use Rattle.summary.proofs.edges.better.Statement.{statement}
 use Rattle.summary.proofs.edges.better.Tie as tie
 
@@ -22,7 +23,7 @@ least-requires-2 c κs = search needs
 
 returns-2 : tie.Need-returns-2
 unfolding bestOf
-returns-2 c = rw (le-leb _ 4096 (c .before .before .if1 .left)) (omega arith)
+returns-2 c = rw (le-leb _ cap (c .before .before .if1 .left)) (omega arith)
 
 pub better-spec : {M : Type 1} → statement M
 better-spec = tie.close (tie.spec returns add-least least-requires least-requires-2 returns-2)

@@ -10,11 +10,11 @@ use Rattle.summary.proofs.edges.row.Statement.{statement}
 use Rattle.summary.proofs.edges.row.Tie as tie
 
 abbrev Inv-loop : tie.InvT-loop
-Inv-loop t₀ w k a b n x wx changes₀ d₀ t changes d =
-    (d ≤ n) × (changes ≤ d) × (length t ≡ length t₀) × Relaxed (Row w k a b d) t₀ t changes
+Inv-loop table₀ w to a b count x wx changes₀ d₀ table changes d =
+    (d ≤ count) × (changes ≤ d) × (length table ≡ length table₀) × Relaxed (Row w to a b d) table₀ table changes
 
 abbrev μ-loop : tie.MeasureT-loop
-μ-loop t₀ w k a b n x wx changes₀ d₀ t changes d = n - d
+μ-loop table₀ w to a b count x wx changes₀ d₀ table changes d = count - d
 
 mul-x : tie.Need-mul-x Inv-loop μ-loop
 mul-x c = search needs
@@ -52,14 +52,14 @@ slice-read-better c = search needs
 better-requires : tie.Need-better-requires Inv-loop μ-loop
 better-requires c κs = search needs
 
-add-t : tie.Need-add-t Inv-loop μ-loop
-add-t c = search needs
+add-table : tie.Need-add-table Inv-loop μ-loop
+add-table c = search needs
 
-mul-t : tie.Need-mul-t Inv-loop μ-loop
-mul-t c = search needs
+mul-table : tie.Need-mul-table Inv-loop μ-loop
+mul-table c = search needs
 
-slice-write-t : tie.Need-slice-write-t Inv-loop μ-loop
-slice-write-t c = search needs
+slice-write-table : tie.Need-slice-write-table Inv-loop μ-loop
+slice-write-table c = search needs
 
 fallen-requires : tie.Need-fallen-requires Inv-loop μ-loop
 fallen-requires c κs = search needs
@@ -109,9 +109,9 @@ row-spec =
     mul-better
     slice-read-better
     better-requires
-    add-t
-    mul-t
-    slice-write-t
+    add-table
+    mul-table
+    slice-write-table
     fallen-requires
     add-changes
     add-d

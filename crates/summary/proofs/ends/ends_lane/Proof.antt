@@ -8,11 +8,11 @@ use Rattle.summary.proofs.ends.ends_lane.Statement.{statement}
 use Rattle.summary.proofs.ends.ends_lane.Tie as tie
 
 abbrev Inv-loop : tie.InvT-loop
-Inv-loop t₀ o i changes₀ s₀ t changes s =
-    Turning 8 (λ γ. Below 8 (λ d. Row 0 (lane first o γ d + laneOf o i) rest (plain i γ d) 1)) 17 t₀ t changes s
+Inv-loop table₀ o i changes₀ top₀ table changes top =
+    Turning 8 (λ γ. Below 8 (λ d. Row 0 (lane first o γ d + laneOf o i) rest (plain i γ d) 1)) 17 table₀ table changes top
 
 abbrev μ-loop : tie.MeasureT-loop
-μ-loop t₀ o i changes₀ s₀ t changes s = 17 - s
+μ-loop table₀ o i changes₀ top₀ table changes top = 17 - top
 
 loop-holds : tie.Need-loop-holds Inv-loop μ-loop
 loop-holds c = starts _ _ _ _
@@ -23,8 +23,8 @@ ends-symbol-requires c κs = search needs
 add-changes : tie.Need-add-changes Inv-loop μ-loop
 add-changes c = search needs
 
-add-s : tie.Need-add-s Inv-loop μ-loop
-add-s c = search needs
+add-top : tie.Need-add-top Inv-loop μ-loop
+add-top c = search needs
 
 loop-less : tie.Need-loop-less Inv-loop μ-loop
 loop-less c = search needs
@@ -51,7 +51,7 @@ ends-lane-spec =
     loop-holds
     ends-symbol-requires
     add-changes
-    add-s
+    add-top
     loop-less
     loop-again
     same-length

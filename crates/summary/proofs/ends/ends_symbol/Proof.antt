@@ -8,17 +8,17 @@ use Rattle.summary.proofs.ends.ends_symbol.Statement.{statement}
 use Rattle.summary.proofs.ends.ends_symbol.Tie as tie
 
 abbrev Inv-loop : tie.InvT-loop
-Inv-loop t₀ o i s changes₀ d₀ t changes d =
-    Turning 1 (λ d. Row 0 (lane first o s d + laneOf o i) rest (plain i s d) 1) 8 t₀ t changes d
+Inv-loop table₀ o i top changes₀ d₀ table changes d =
+    Turning 1 (λ d. Row 0 (lane first o top d + laneOf o i) rest (plain i top d) 1) 8 table₀ table changes d
 
 abbrev μ-loop : tie.MeasureT-loop
-μ-loop t₀ o i s changes₀ d₀ t changes d = 8 - d
+μ-loop table₀ o i top changes₀ d₀ table changes d = 8 - d
 
 loop-holds : tie.Need-loop-holds Inv-loop μ-loop
 loop-holds c = starts _ _ _ _
 
-lane-place-requires : tie.Need-lane-place-requires Inv-loop μ-loop
-lane-place-requires c κs = search needs
+lane-cell-requires : tie.Need-lane-cell-requires Inv-loop μ-loop
+lane-cell-requires c κs = search needs
 
 mul-row : tie.Need-mul-row Inv-loop μ-loop
 mul-row c = search needs
@@ -29,8 +29,8 @@ add-row c = search needs
 add-row-2 : tie.Need-add-row-2 Inv-loop μ-loop
 add-row-2 c = search needs
 
-place-requires : tie.Need-place-requires Inv-loop μ-loop
-place-requires c κs = search needs
+plain-cell-requires : tie.Need-plain-cell-requires Inv-loop μ-loop
+plain-cell-requires c κs = search needs
 
 row-requires : tie.Need-row-requires Inv-loop μ-loop
 row-requires c κs = search needs
@@ -48,10 +48,10 @@ loop-again : tie.Need-loop-again Inv-loop μ-loop
 loop-again c =
     let loop = c .before .before .before .before .before .before .before .loop in
     let loop-test = c .before .before .before .before .before .before .loop-test in
-    let lane-place = c .before .before .before .before .lane-place in
-    let place = c .before .before .before .place in
+    let lane-cell = c .before .before .before .before .lane-cell in
+    let plain-cell = c .before .before .before .plain-cell in
     let row = c .before .before .row in
-    turns (loop .inv) (loop-test .taken) (rw (lane-place .ensures, place .ensures) at (row .ensures .0)) (row .ensures .1)
+    turns (loop .inv) (loop-test .taken) (rw (lane-cell .ensures, plain-cell .ensures) at (row .ensures .0)) (row .ensures .1)
 
 same-length : tie.Need-same-length Inv-loop μ-loop
 same-length c = search needs
@@ -66,11 +66,11 @@ ends-symbol-spec =
     Inv-loop
     μ-loop
     loop-holds
-    lane-place-requires
+    lane-cell-requires
     mul-row
     add-row
     add-row-2
-    place-requires
+    plain-cell-requires
     row-requires
     add-changes
     add-d

@@ -8,20 +8,20 @@ use Rattle.summary.proofs.lanes.lane_pops.Statement.{statement}
 use Rattle.summary.proofs.lanes.lane_pops.Tie as tie
 
 abbrev Inv-loop : tie.InvT-loop
-Inv-loop t₀ base g s q b from changes₀ i₀ t changes i =
-    Turning 16 (λ i. Row 1 (lane base g s i) (plain q b i) from 16) 8 t₀ t changes i
+Inv-loop table₀ base p top q b from changes₀ d₀ table changes d =
+    Turning 16 (λ d. Row 1 (lane base p top d) (plain q b d) from 16) 8 table₀ table changes d
 
 abbrev μ-loop : tie.MeasureT-loop
-μ-loop t₀ base g s q b from changes₀ i₀ t changes i = 8 - i
+μ-loop table₀ base p top q b from changes₀ d₀ table changes d = 8 - d
 
 loop-holds : tie.Need-loop-holds Inv-loop μ-loop
 loop-holds c = starts _ _ _ _
 
-lane-place-requires : tie.Need-lane-place-requires Inv-loop μ-loop
-lane-place-requires c κs = search needs
+lane-cell-requires : tie.Need-lane-cell-requires Inv-loop μ-loop
+lane-cell-requires c κs = search needs
 
-place-requires : tie.Need-place-requires Inv-loop μ-loop
-place-requires c κs = search needs
+plain-cell-requires : tie.Need-plain-cell-requires Inv-loop μ-loop
+plain-cell-requires c κs = search needs
 
 row-requires : tie.Need-row-requires Inv-loop μ-loop
 row-requires c κs = search needs
@@ -29,8 +29,8 @@ row-requires c κs = search needs
 add-changes : tie.Need-add-changes Inv-loop μ-loop
 add-changes c = search needs
 
-add-i : tie.Need-add-i Inv-loop μ-loop
-add-i c = search needs
+add-d : tie.Need-add-d Inv-loop μ-loop
+add-d c = search needs
 
 loop-less : tie.Need-loop-less Inv-loop μ-loop
 loop-less c = search needs
@@ -39,10 +39,10 @@ loop-again : tie.Need-loop-again Inv-loop μ-loop
 loop-again c =
     let loop = c .before .before .before .before .before .before .before .loop in
     let loop-test = c .before .before .before .before .before .before .loop-test in
-    let lane-place = c .before .before .before .before .lane-place in
-    let place = c .before .before .before .place in
+    let lane-cell = c .before .before .before .before .lane-cell in
+    let plain-cell = c .before .before .before .plain-cell in
     let row = c .before .before .row in
-    turns (loop .inv) (loop-test .taken) (rw (lane-place .ensures, place .ensures) at (row .ensures .0)) (row .ensures .1)
+    turns (loop .inv) (loop-test .taken) (rw (lane-cell .ensures, plain-cell .ensures) at (row .ensures .0)) (row .ensures .1)
 
 same-length : tie.Need-same-length Inv-loop μ-loop
 same-length c = search needs
@@ -57,11 +57,11 @@ lane-pops-spec =
     Inv-loop
     μ-loop
     loop-holds
-    lane-place-requires
-    place-requires
+    lane-cell-requires
+    plain-cell-requires
     row-requires
     add-changes
-    add-i
+    add-d
     loop-less
     loop-again
     same-length

@@ -11,31 +11,31 @@ use Rattle.summary.proofs.lanes.lane_pushes.Statement.{statement}
 use Rattle.summary.proofs.lanes.lane_pushes.Tie as tie
 
 abbrev Inv-loop : tie.InvT-loop
-Inv-loop t₀ base n g s h a b changes₀ q₀ t changes q =
+Inv-loop table₀ base g p top h a b changes₀ q₀ table changes q =
     Turning 256
-    (λ q e. Row 1 (lane base g s 0) (plain h a q) (lane base q b 0) 128 e ⊎ Below 8 (λ i. Row 1 (lane base g s i) (plain q b i) (lane base h a q) 16) e)
-    n t₀ t changes q
+    (λ q e. Row 1 (lane base p top 0) (plain h a q) (lane base q b 0) 128 e ⊎ Below 8 (λ d. Row 1 (lane base p top d) (plain q b d) (lane base h a q) 16) e)
+    g table₀ table changes q
 
 abbrev μ-loop : tie.MeasureT-loop
-μ-loop t₀ base n g s h a b changes₀ q₀ t changes q = n - q
+μ-loop table₀ base g p top h a b changes₀ q₀ table changes q = g - q
 
 loop-holds : tie.Need-loop-holds Inv-loop μ-loop
 loop-holds c = starts _ _ _ _
 
-lane-place-requires : tie.Need-lane-place-requires Inv-loop μ-loop
-lane-place-requires c κs = search needs
+lane-cell-requires : tie.Need-lane-cell-requires Inv-loop μ-loop
+lane-cell-requires c κs = search needs
 
-place-requires : tie.Need-place-requires Inv-loop μ-loop
-place-requires c κs = search needs
+plain-cell-requires : tie.Need-plain-cell-requires Inv-loop μ-loop
+plain-cell-requires c κs = search needs
 
-lane-place-requires-2 : tie.Need-lane-place-requires-2 Inv-loop μ-loop
-lane-place-requires-2 c κs = search needs
+lane-cell-requires-2 : tie.Need-lane-cell-requires-2 Inv-loop μ-loop
+lane-cell-requires-2 c κs = search needs
 
 row-requires : tie.Need-row-requires Inv-loop μ-loop
 row-requires c κs = search needs
 
-lane-place-requires-3 : tie.Need-lane-place-requires-3 Inv-loop μ-loop
-lane-place-requires-3 c κs = search needs
+lane-cell-requires-3 : tie.Need-lane-cell-requires-3 Inv-loop μ-loop
+lane-cell-requires-3 c κs = search needs
 
 lane-pops-requires : tie.Need-lane-pops-requires Inv-loop μ-loop
 lane-pops-requires c κs = search needs
@@ -56,15 +56,15 @@ loop-again : tie.Need-loop-again Inv-loop μ-loop
 loop-again c =
     let loop = c .before .before .before .before .before .before .before .before .before .before .before .before .before .loop in
     let loop-test = c .before .before .before .before .before .before .before .before .before .before .before .before .loop-test in
-    let lane-place = c .before .before .before .before .before .before .before .before .before .before .lane-place in
-    let place = c .before .before .before .before .before .before .before .before .before .place in
-    let lane-place2 = c .before .before .before .before .before .before .before .before .lane-place2 in
+    let lane-cell = c .before .before .before .before .before .before .before .before .before .before .lane-cell in
+    let plain-cell = c .before .before .before .before .before .before .before .before .before .plain-cell in
+    let lane-cell2 = c .before .before .before .before .before .before .before .before .lane-cell2 in
     let row = c .before .before .before .before .before .before .before .row in
-    let lane-place3 = c .before .before .before .lane-place3 in
+    let lane-cell3 = c .before .before .before .lane-cell3 in
     let lane-pops = c .before .before .lane-pops in
     turns (loop .inv) (loop-test .taken)
-    (then (rw (lane-place .ensures, place .ensures, lane-place2 .ensures) at (row .ensures .0))
-    (rw (lane-place3 .ensures) at (lane-pops .ensures .0)))
+    (then (rw (lane-cell .ensures, plain-cell .ensures, lane-cell2 .ensures) at (row .ensures .0))
+    (rw (lane-cell3 .ensures) at (lane-pops .ensures .0)))
     (omega arith)
 
 same-length : tie.Need-same-length Inv-loop μ-loop
@@ -80,11 +80,11 @@ lane-pushes-spec =
     Inv-loop
     μ-loop
     loop-holds
-    lane-place-requires
-    place-requires
-    lane-place-requires-2
+    lane-cell-requires
+    plain-cell-requires
+    lane-cell-requires-2
     row-requires
-    lane-place-requires-3
+    lane-cell-requires-3
     lane-pops-requires
     add-changes
     add-changes-2

@@ -8,23 +8,23 @@ use Rattle.summary.proofs.plain.plain_pushes.Statement.{statement}
 use Rattle.summary.proofs.plain.plain_pushes.Tie as tie
 
 abbrev Inv-loop : tie.InvT-loop
-Inv-loop t₀ n g s h a b changes₀ q₀ t changes q =
-    Turning 8 (λ q. Row 1 (plain g s 0) (plain h a q) (plain q b 0) 8) n t₀ t changes q
+Inv-loop table₀ g p top h a b changes₀ q₀ table changes q =
+    Turning 8 (λ q. Row 1 (plain p top 0) (plain h a q) (plain q b 0) 8) g table₀ table changes q
 
 abbrev μ-loop : tie.MeasureT-loop
-μ-loop t₀ n g s h a b changes₀ q₀ t changes q = n - q
+μ-loop table₀ g p top h a b changes₀ q₀ table changes q = g - q
 
 loop-holds : tie.Need-loop-holds Inv-loop μ-loop
 loop-holds c = starts _ _ _ _
 
-place-requires : tie.Need-place-requires Inv-loop μ-loop
-place-requires c κs = search needs
+plain-cell-requires : tie.Need-plain-cell-requires Inv-loop μ-loop
+plain-cell-requires c κs = search needs
 
-place-requires-2 : tie.Need-place-requires-2 Inv-loop μ-loop
-place-requires-2 c κs = search needs
+plain-cell-requires-2 : tie.Need-plain-cell-requires-2 Inv-loop μ-loop
+plain-cell-requires-2 c κs = search needs
 
-place-requires-3 : tie.Need-place-requires-3 Inv-loop μ-loop
-place-requires-3 c κs = search needs
+plain-cell-requires-3 : tie.Need-plain-cell-requires-3 Inv-loop μ-loop
+plain-cell-requires-3 c κs = search needs
 
 row-requires : tie.Need-row-requires Inv-loop μ-loop
 row-requires c κs = search needs
@@ -42,11 +42,11 @@ loop-again : tie.Need-loop-again Inv-loop μ-loop
 loop-again c =
     let loop = c .before .before .before .before .before .before .before .before .loop in
     let loop-test = c .before .before .before .before .before .before .before .loop-test in
-    let place = c .before .before .before .before .before .place in
-    let place2 = c .before .before .before .before .place2 in
-    let place3 = c .before .before .before .place3 in
+    let plain-cell = c .before .before .before .before .before .plain-cell in
+    let plain-cell2 = c .before .before .before .before .plain-cell2 in
+    let plain-cell3 = c .before .before .before .plain-cell3 in
     let row = c .before .before .row in
-    turns (loop .inv) (loop-test .taken) (rw (place .ensures, place2 .ensures, place3 .ensures) at (row .ensures .0))
+    turns (loop .inv) (loop-test .taken) (rw (plain-cell .ensures, plain-cell2 .ensures, plain-cell3 .ensures) at (row .ensures .0))
     (row .ensures .1)
 
 same-length : tie.Need-same-length Inv-loop μ-loop
@@ -62,9 +62,9 @@ plain-pushes-spec =
     Inv-loop
     μ-loop
     loop-holds
-    place-requires
-    place-requires-2
-    place-requires-3
+    plain-cell-requires
+    plain-cell-requires-2
+    plain-cell-requires-3
     row-requires
     add-changes
     add-q

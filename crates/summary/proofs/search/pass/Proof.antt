@@ -12,11 +12,11 @@ use Rattle.summary.proofs.search.pass.Statement.{statement}
 use Rattle.summary.proofs.search.pass.Tie as tie
 
 abbrev Inv-loop : tie.InvT-loop
-Inv-loop t₀ kind n th count changes₀ i₀ t changes i =
-    Turning 1088 (λ r. RuleEdges kind n (ruleAt th r)) count t₀ t changes i × (length (th .rules) ≡ 64)
+Inv-loop table₀ kind g th count changes₀ i₀ table changes i =
+    Turning 1088 (λ r. RuleEdges kind g (ruleAt th r)) count table₀ table changes i × (length (th .rules) ≡ 64)
 
 abbrev μ-loop : tie.MeasureT-loop
-μ-loop t₀ kind n th count changes₀ i₀ t changes i = count - i
+μ-loop table₀ kind g th count changes₀ i₀ table changes i = count - i
 
 loop-holds : tie.Need-loop-holds Inv-loop μ-loop
 loop-holds c = (starts _ _ _ _, search (length-mapped, needs))

@@ -10,10 +10,10 @@ use Rattle.summary.proofs.search.settle.Statement.{statement}
 use Rattle.summary.proofs.search.settle.Tie as tie
 
 abbrev Inv-loop : tie.InvT-loop
-Inv-loop t₀ kind n th changes₀ t changes = Closing (Rules th (RuleEdges kind n)) t₀ t changes
+Inv-loop table₀ kind g th changes₀ table changes = Closing (Rules th (RuleEdges kind g)) table₀ table changes
 
 abbrev μ-loop : tie.MeasureT-loop
-μ-loop t₀ kind n th changes₀ t changes = sum t + changes
+μ-loop table₀ kind g th changes₀ table changes = sum table + changes
 
 loop-holds : tie.Need-loop-holds Inv-loop μ-loop
 loop-holds c = opens _ _

@@ -25,8 +25,8 @@ returns-2 c =
     let start = c .before .before .before .before .before .before .before .before .before in
     let a = c .before .before .before .before .lane-in .ensures .0 in
     let b = c .before .before .before .lane-in2 .ensures .0 in
-    entry-read (start .args .t .now) (start .args .plan .now) (start .args .goal) _ _ (c .before .before .before .before .before .if1 .left)
-    (start .pre .goal .until) (c .before .before .lane-to .ensures .0 (endsIn (start .args .plan .now)) a b) (c .entry-at .ensures)
+    entry-read (start .args .table .now) (start .args .plan .now) (start .args .goal) _ _ (c .before .before .before .before .before .if1 .left)
+    (start .pre .fits .until) (c .before .before .lane-to .ensures .0 (endsIn (start .args .plan .now)) a b) (c .entry-at .ensures)
 
 pub entry-of-spec : {M : Type 1} → statement M
 entry-of-spec =

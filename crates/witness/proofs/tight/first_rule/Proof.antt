@@ -9,10 +9,10 @@ use Rattle.witness.proofs.tight.first_rule.Statement.{statement}
 use Rattle.witness.proofs.tight.first_rule.Tie as tie
 
 abbrev Inv-loop : tie.InvT-loop
-Inv-loop t plan goal count n r₀ r = ((i : ℕ) → i < r → Tight t plan goal count (ruleIn plan i) → ⊥) × (r ≤ n)
+Inv-loop table plan goal count rules r₀ r = ((i : ℕ) → i < r → Tight table plan goal count (ruleIn plan i) → ⊥) × (r ≤ rules)
 
 abbrev μ-loop : tie.MeasureT-loop
-μ-loop t plan goal count n r₀ r = n - r
+μ-loop table plan goal count rules r₀ r = rules - r
 
 byte-requires : tie.Need-byte-requires Inv-loop μ-loop
 byte-requires c κs = search needs

@@ -8,10 +8,10 @@ use Rattle.witness.proofs.tight.middle.Statement.{statement}
 use Rattle.witness.proofs.tight.middle.Tie as tie
 
 abbrev Inv-loop : tie.InvT-loop
-Inv-loop t plan goal below count y₀ y = ((i : ℕ) → i < y → Sums t plan goal below count i → ⊥) × (y ≤ 12)
+Inv-loop table plan goal below count y₀ y = ((i : ℕ) → i < y → Sums table plan goal below count i → ⊥) × (y ≤ 12)
 
 abbrev μ-loop : tie.MeasureT-loop
-μ-loop t plan goal below count y₀ y = 12 - y
+μ-loop table plan goal below count y₀ y = 12 - y
 
 loop-holds : tie.Need-loop-holds Inv-loop μ-loop
 loop-holds c = (λ i h. absurd (omega arith), search needs)

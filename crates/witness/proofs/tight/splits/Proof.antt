@@ -17,7 +17,7 @@ middle-requires c κs = search needs
 returns-2 : tie.Need-returns-2
 returns-2 c =
     let a = c .before .before .before .before .before .args in
-    says-splits (a .t .now) (a .plan .now) (a .goal) (a .below) (a .count) _
+    says-splits (a .table .now) (a .plan .now) (a .goal) (a .below) (a .count) _
     (rw (c .before .if1 .left) at (c .before .before .above .ensures)) (c .middle .ensures .0) (c .middle .ensures .1 .0)
 
 pub splits-spec : {M : Type 1} → statement M

@@ -28,7 +28,7 @@ returns-3 c =
     let c5 = c .before .before .before .before .before in
     let c10 = c5 .before .before .before .before .before in
     let a = c10 .args in
-    says-third (TightBy (a .t .now) (a .plan .now) (a .goal) (a .count) (a .rule .after .0) (a .rule .right))
+    says-third (TightBy (a .table .now) (a .plan .now) (a .goal) (a .count) (a .rule .after .0) (a .rule .right))
     (c .suits-by .result) (c5 .if1 .left) (c .before .before .if2 .left) (c .suits-by .ensures)
 
 pub suits-spec : {M : Type 1} → statement M

@@ -23,7 +23,7 @@ above-requires t c κs = search needs
 pub stretch-requires : (t : ℕ) → pair-lts.Need-stretch-requires (pair-calls t) (pair-at t) pair.Post
 stretch-requires t c κs =
     let p = c .before .before .before .before .before .before .pre in
-    (omega (arith, p .0, p .1 .0 .goal .until), (p .1 .0, (p .1 .1 .1, p .1 .1 .2)))
+    (omega (arith, p .0, p .1 .0 .fits .until), (p .1 .0, (p .1 .1 .1, p .1 .1 .2)))
 
 pub same-length : (t : ℕ) → pair-lts.Need-same-length (pair-calls t) (pair-at t) pair.Post
 same-length t c = search needs
@@ -50,7 +50,7 @@ stretch-requires-2 t c κs =
     let p = c .before .before .before .before .before .before .before .before .before .before .pre in
     let R = gone-ready (p .1 .0) _ (c .before .before .before .if2 .taken) (c .before .before .gone-at .ensures) in
     let l = part t (c .before) in
-    (omega (arith, p .0, R .goal .until), (R, (omega arith, omega arith)))
+    (omega (arith, p .0, R .fits .until), (R, (omega arith, omega arith)))
 
 pub rest-at-requires : (t : ℕ) → pair-lts.Need-rest-at-requires (pair-calls t) (pair-at t) pair.Post
 rest-at-requires t c κs = search needs
@@ -75,7 +75,7 @@ stretch-requires-3 t c κs =
     let R = rest-ready (p .1 .0) _ (p .1 .1 .0) (c .before .before .before .before .before .before .before .before .if2 .taken)
     (c .before .rest-at .ensures) in
     let l = part t (c .before .before .before .before .before .before) in
-    (omega (arith, p .0, R .goal .until), (R, (omega arith, omega arith)))
+    (omega (arith, p .0, R .fits .until), (R, (omega arith, omega arith)))
 
 pub same-length-2 : (t : ℕ) → pair-lts.Need-same-length-2 (pair-calls t) (pair-at t) pair.Post
 same-length-2 t c = search needs

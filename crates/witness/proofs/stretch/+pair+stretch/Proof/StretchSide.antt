@@ -18,7 +18,7 @@ listed : (t : ℕ) (c : stretch-lts.Else2 (stretch-calls t) (stretch-at t) stret
 listed t c = low-rule _ _ _ (c .before .before .first-rule .ensures .1 .1) (c .before .byte .ensures .0) (c .if2 .left)
 
 pub returns : (t : ℕ) → stretch-lts.Need-returns (stretch-calls t) (stretch-at t) stretch.Post
-returns t c = λ w d s e. stopped w _ _ s (c .before .before .before .before .pre .1 .0 .goal .symbol) e (c .if1 .taken)
+returns t c = λ w d s e. stopped w _ _ s (c .before .before .before .before .pre .1 .0 .fits .symbol) e (c .if1 .taken)
 
 pub first-rule-requires : (t : ℕ) → stretch-lts.Need-first-rule-requires (stretch-calls t) (stretch-at t) stretch.Post
 first-rule-requires t c κs = search needs
@@ -56,7 +56,7 @@ returns-2 t c =
     let c9 = c8 .before in
     let c10 = c9 .before in
     let c14 = c10 .before .before .before .before in
-    λ w d s e. turned w s (c14 .pre .1 .0 .goal .symbol) e (omega (arith, c10 .if1 .left)) (c14 .pre .1 .1 .0)
+    λ w d s e. turned w s (c14 .pre .1 .0 .fits .symbol) e (omega (arith, c10 .if1 .left)) (c14 .pre .1 .1 .0)
     (λ i l. c9 .first-rule .ensures .1 .0 i (omega (arith, c7 .if2 .taken, c8 .byte .ensures .0)))
     (λ l. (refl, λ q f. rw (c4 .next-turn .ensures) at (c .before .before .stretch .ensures) w d q f))
 
@@ -65,7 +65,7 @@ returns-3 t c =
     let c4 = c .before .before .before .before in
     let c5 = c4 .before in
     let c9 = c5 .before .before .before .before in
-    λ w d s e. turned w {h = 0} s (c9 .pre .1 .0 .goal .symbol) e (omega (arith, c5 .if1 .left)) (c9 .pre .1 .1 .0)
+    λ w d s e. turned w {h = 0} s (c9 .pre .1 .0 .fits .symbol) e (omega (arith, c5 .if1 .left)) (c9 .pre .1 .1 .0)
     (λ i l. c4 .first-rule .ensures .1 .0 i
     (omega (arith, c .before .before .if2 .taken, c .before .before .before .byte .ensures .0)))
     (λ l. absurd (omega (arith, c .if3 .left)))
@@ -74,7 +74,7 @@ pub put-step-requires : (t : ℕ) → stretch-lts.Need-put-step-requires (stretc
 put-step-requires t c κs =
     let p = c .before .before .before .before .before .before .before .before .pre in
     let l = listed t (c .before) in
-    (p .1 .0 .range, (p .1 .0 .goal .passed, omega (arith, p .1 .0 .range .count), omega (arith, p .1 .1 .1, c .before .before .before .before .if1 .left)))
+    (p .1 .0 .range, (p .1 .0 .fits .passed, omega (arith, p .1 .0 .range .count), omega (arith, p .1 .1 .1, c .before .before .before .before .if1 .left)))
 
 pub after-step-requires : (t : ℕ) → stretch-lts.Need-after-step-requires (stretch-calls t) (stretch-at t) stretch.Post
 after-step-requires t c κs = search needs
@@ -96,7 +96,7 @@ stretch-requires-2 t c κs =
     let p = c .before .before .before .before .before .before .before .before .before .before .before .before .before .before .before .before .pre in
     let R = one-ready (p .1 .0) _ (listed t (c .before .before .before .before .before .before .before .before .before))
     (rw (c .before .before .next .given .1) at (c .before .before .before .before .after-step .ensures)) in
-    (omega (arith, p .0, R .goal .until), (R, (omega arith, omega arith)))
+    (omega (arith, p .0, R .fits .until), (R, (omega arith, omega arith)))
 
 pub enum-known-next-2 : (t : ℕ) → stretch-lts.Need-enum-known-next-2 (stretch-calls t) (stretch-at t) stretch.Post
 enum-known-next-2 t c = search needs

@@ -1,4 +1,4 @@
--- The places of the table as numbers: a place lies in one part of the table, and gives back its state, symbol, destination
+-- The cells of the table as numbers: a cell lies in one part of the table, and gives back its state, symbol, destination
 -- and lane, since each of them is a digit.
 use mathlib.Core.Bool.{cond}
 use mathlib.Core.Path.{_≡_}
@@ -8,23 +8,24 @@ use native.Mathlib.Omega.{arith}
 use lib.Dec.{ltb}
 use borrow.Author.Tests.{le-ltb, lt-ltb, ne-eqb}
 use Rattle.summary.specs.Cells.{plain, lane, first, second, blank}
+use Rattle.summary.specs.Table.{cap}
 
 -- The parts of the table with turn ends inside.
 abbrev pub baseOf : ℕ → ℕ
 baseOf zero = first
 baseOf (suc m) = second
 
--- The lanes of a place, by the number of turn ends inside.
+-- The lanes of a cell, by the number of turn ends inside.
 abbrev pub width : ℕ → ℕ
 width zero = 1
 width (suc m) = 16
 
--- The first lane of a place, by the number of turn ends inside.
+-- The first lane of a cell, by the number of turn ends inside.
 abbrev pub start : ℕ → ℕ → ℕ → ℕ → ℕ
 start zero g γ d = plain g γ d
 start (suc m) g γ d = lane (baseOf m) g γ d
 
--- A place with an offset that stays among the destinations of its state and symbol.
+-- A cell with an offset that stays among the destinations of its state and symbol.
 pub record Offset (m g γ d x : ℕ) : Type 0 where
   pub part : m ≤ 2
   pub state : g < 4
@@ -37,7 +38,7 @@ pub lanes-fit : (m d : ℕ) → d < 8 → width m ≤ (8 - d) * width m
 lanes-fit zero d h = omega arith
 lanes-fit (suc m) d h = omega arith
 
--- The part of a place.
+-- The part of a cell.
 pub partOf : ℕ → ℕ
 partOf k = cond (ltb k first) 0 (cond (ltb k second) 1 2)
 
@@ -51,7 +52,7 @@ pub last-part : (k : ℕ) → second ≤ k → partOf k ≡ 2
 unfolding partOf
 last-part k h = rw (le-ltb k first (omega arith), le-ltb k second h)
 
--- A place lies in its part.
+-- A cell lies in its part.
 pub parts : (m g γ d x : ℕ) → Offset m g γ d x → partOf (start m g γ d + x) ≡ m
 unfolding partOf
 parts zero g γ d x h = first-part (plain g γ d + x) (omega arith)
@@ -61,7 +62,7 @@ parts (suc zero) g γ d x h =
 parts (suc (suc zero)) g γ d x h = last-part (lane second g γ d + x) (omega arith)
 parts (suc (suc (suc m))) g γ d x h = absurd (omega arith)
 
--- What equal places share: state and symbol, and the offset between the destinations; within the lanes of one
+-- What equal cells share: state and symbol, and the offset between the destinations; within the lanes of one
 -- destination also that and the lane.
 pub record Alike (m g γ d l g′ γ′ d′ x : ℕ) : Type 0 where
   pub state : g ≡ g′
@@ -70,7 +71,7 @@ pub record Alike (m g γ d l g′ γ′ d′ x : ℕ) : Type 0 where
   pub same : (h a : ℕ) → start m h a d + l ≡ start m h a d′ + x
   pub narrow : x < width m → (d ≡ d′) × (l ≡ x)
 
--- Equal places are alike.
+-- Equal cells are alike.
 pub alike : (m g γ d l g′ γ′ d′ x : ℕ) → Offset m g γ d l → l < width m → Offset m g′ γ′ d′ x
     → start m g γ d + l ≡ start m g′ γ′ d′ + x → Alike m g γ d l g′ γ′ d′ x
 alike zero g γ d l g′ γ′ d′ x p q r e =
@@ -83,7 +84,7 @@ alike (suc m) g γ d l g′ γ′ d′ x p q r e =
     omega arith
 
 -- The cells that the table starts with.
-pub blank-cell : (k : ℕ) → blank k ≤ 4096 → (k < first) × (k % 8 ≡ 4 + k / 136)
+pub blank-cell : (k : ℕ) → blank k ≤ cap → (k < first) × (k % 8 ≡ 4 + k / 136)
 unfolding blank
 blank-cell k h =
     elim (decLt k first) [
