@@ -86,8 +86,8 @@ scheduled m n schedule e h =
       record {
         steps = l .steps;
         run = l .leads;
-        count = omega (arith, length-bytes (l .steps), ap length (l .bytes), e);
-        shown = l .bytes;
+        count = omega (arith, length-bytes (l .steps), ap length (l .written), e);
+        shown = l .written;
       },
       same,
     )

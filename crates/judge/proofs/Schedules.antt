@@ -77,7 +77,7 @@ replayed m {n} {old} {new} v most room s =
     accepts m (take (2 * n) new) (m .target) true .1 (record {
       valid = v;
       steps = s .steps;
-      bytes = stored-front s room;
+      written = stored-front s room;
       most = omega (arith, s .count);
       leads = s .run;
       target = sym (eq-eqb (m .target .0) (m .target .0) refl);
