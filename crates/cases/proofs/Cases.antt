@@ -20,7 +20,7 @@ use Rattle.model.proofs.Ranges.{valid-fits}
 use Rattle.model.proofs.Table.{every, at}
 use Rattle.model.proofs.Tests.{passed, both, equal, tests}
 use Rattle.model.proofs.Stores.{length-bytes}
-use Rattle.record.specs.Reader.{Read, readOf, front, head, byte, ranged, field, right, rule, ruleList, rules}
+use Rattle.record.specs.Reader.{Read, readOf, parseFront, parseHead, parseByte, parseRanged, parseField, parseRight, parseRule, parseRuleList, parseRules}
 use Rattle.replay.specs.declared.Replayed.{Replayed}
 use Rattle.replay.specs.declared.Replayed.the-variants as replayed
 use Rattle.replay.specs.Replay.{replayOf, sizeFits}
@@ -127,7 +127,7 @@ unfolding holds
 claimed c t = come (c .bytes) (readOf (c .bytes)) refl (c .answer) t
 
 all-hold : T (every (λ i. holds) cases)
-unfolding cases holds comes judges readOf front head byte ranged field right rule ruleList rules explored grow closed next avoids delays absent followed bitRight bitsRight drawn finds powers digits applies replayOf stepsOf sizeFits walk stepFrom fire turnFits faultOf headFault threadFault ruleFault rightFault symbolFault firstOf
+unfolding cases holds comes judges readOf parseFront parseHead parseByte parseRanged parseField parseRight parseRule parseRuleList parseRules explored grow closed next avoids delays absent followed bitRight bitsRight drawn finds powers digits applies replayOf stepsOf sizeFits walk stepFrom fire turnFits faultOf headFault threadFault ruleFault rightFault symbolFault firstOf
 all-hold = tt
 
 -- Every case of the table has its claims.

@@ -9,23 +9,23 @@ use lib.Seq.{take-all}
 use Rattle.model.specs.declared.Model.{Model}
 use Rattle.model.specs.Results.{refused, accepted}
 use Rattle.record.specs.declared.Front.{Front}
-use Rattle.record.specs.declared.Place.{Place}
-use Rattle.record.specs.declared.Place.the-variants.{At, Refused}
+use Rattle.record.specs.declared.Taken.{Taken}
+use Rattle.record.specs.declared.Taken.the-variants.{Refused}
 use Rattle.record.specs.declared.RuleList.{RuleList}
-use Rattle.record.specs.Reader.{front, rules}
-use Rattle.record.specs.Held.{ReadsList, ReadsFront, listed, placed, placeOf, readingOf, zeroModel}
+use Rattle.record.specs.Reader.{parseFront, parseRules}
+use Rattle.record.specs.Held.{Reads, listed, takenWith, listOf, frontOf, over, placeOf, readingOf, zeroModel}
 use Rattle.record.proofs.Parts.{refuses}
 
 -- A refusal comes with the zero model.
 pub refused-front : {s : List ℕ} {r : Front} {n : ℕ} → r ≡ record { answer = Refused n; model = zeroModel }
-    → front s ≡ refused n
-    → ReadsFront s r (front s) × (r .model ≡ readingOf (front s) .model)
+    → parseFront s ≡ refused n
+    → Reads s (frontOf r) (parseFront s) × (r .model ≡ readingOf (parseFront s) .model)
 unfolding readingOf
 refused-front e h = rw (e, h) (refuses refl, refl)
 
 -- A model that is read is the one that is answered.
-pub read-front : {s : List ℕ} {m : Model} {n : ℕ} → n ≤ length s → front s ≡ accepted (m, drop n s)
-    → ReadsFront s (record { answer = At n; model = m }) (front s) × (m ≡ readingOf (front s) .model)
+pub read-front : {s : List ℕ} {m : Model} {n : ℕ} → n ≤ length s → parseFront s ≡ accepted (m, drop n s)
+    → Reads s (accepted (m, n)) (parseFront s) × (m ≡ readingOf (parseFront s) .model)
 unfolding readingOf
 read-front k h = rw h (record { same = refl; within = k }, refl)
 
@@ -34,12 +34,12 @@ whole : (s : List ℕ) (at : ℕ) → at ≤ length s → take (length s - at) (
 whole s at h = take-all (length s - at) (drop at s) (simp length-drop (omega arith))
 
 -- What was wanted of the rules from a place on, whose answer is known ..
-module _ (s : List ℕ) (at : ℕ) (h : at ≤ length s) (r : RuleList) (present : Bool) (g : ℕ) {p : Place}
-    (reads : ReadsList (take (length s - at) (drop at s)) r (rules present g (take (length s - at) (drop at s))))
-    (e : r .answer ≡ p) where
-  pub list-got : rules present g (drop at s) ≡ placed (drop at s) p (listed r)
+module _ (s : List ℕ) (at : ℕ) (h : at ≤ length s) (r : RuleList) (present : Bool) (g : ℕ) {t : Taken}
+    (reads : Reads (take (length s - at) (drop at s)) (listOf r) (parseRules present g (take (length s - at) (drop at s))))
+    (e : r .answer ≡ t) where
+  pub list-got : parseRules present g (drop at s) ≡ over (drop at s) (takenWith (listed r) t)
   list-got = rw (whole s at h, e) at (sym (reads .same))
 
   -- .. and where they end.
-  pub list-ends : at + placeOf p ≤ length s
+  pub list-ends : at + placeOf (takenWith (listed r) t) ≤ length s
   list-ends = let k = rw (whole s at h, e, length-drop) at (reads .within) in omega arith

@@ -11,8 +11,8 @@ use Rattle.model.specs.Fits.{Fits}
 use Rattle.model.specs.Results.{accepted}
 use Rattle.model.proofs.Results.{checked}
 use Rattle.model.proofs.Tests.{passed}
-use Rattle.record.specs.Reader.{byte, ranged, field, Head, head}
-use Rattle.writer.specs.Writer.{fieldOf, weight, mapOf}
+use Rattle.record.specs.Reader.{parseByte, parseRanged, parseField, Head, parseHead}
+use Rattle.writer.specs.Writer.{fieldOf, weightOf, mapOf}
 use Rattle.record.proofs.OneField.{parted, carried, byte-forth}
 use Rattle.record.proofs.OneField.{ranged-back, ranged-forth, field-back, FieldRead, field-forth}
 use Rattle.record.proofs.Maps.{HeadBits, head-bits}
@@ -38,12 +38,12 @@ headWith h rest =
 -- The bits of a model's map.
 pub map-bits : (m : Model)
     → HeadBits (mapOf m) (eqb (m .g) 4) (eqb (m .k) 2) (eqb (m .start .0) 0) (eqb (m .a .first .0) 0) (eqb (m .b .first .0) 0) (eqb (m .a .count) 0) (eqb (m .b .count) 0)
-unfolding mapOf weight
+unfolding mapOf weightOf
 map-bits m = head-bits (eqb (m .g) 4) (eqb (m .k) 2) (eqb (m .start .0) 0) (eqb (m .a .first .0) 0) (eqb (m .b .first .0) 0) (eqb (m .a .count) 0) (eqb (m .b .count) 0)
 
 -- A head that is written is read.
-pub head-back : (m : Model) → Fits m → (rest : List ℕ) → head (headWith (headOf m) rest) ≡ accepted (headOf m, rest)
-unfolding head byte headWith headOf
+pub head-back : (m : Model) → Fits m → (rest : List ℕ) → parseHead (headWith (headOf m) rest) ≡ accepted (headOf m, rest)
+unfolding parseHead parseByte headWith headOf
 head-back m f rest =
     let b = map-bits m in
     let g : m .g < 5 = omega (arith, f .g .1) in
@@ -102,18 +102,18 @@ head-made {map} e t g k s d a b =
     }
 
 -- A head that is read was written so.
-pub head-forth : (bs : List ℕ) {h : Head} {rest : List ℕ} → head bs ≡ accepted (h, rest) → HeadRead bs h rest
-unfolding head
+pub head-forth : (bs : List ℕ) {h : Head} {rest : List ℕ} → parseHead bs ≡ accepted (h, rest) → HeadRead bs h rest
+unfolding parseHead
 head-forth bs e =
-    parted (byte bs) _ e λ map m₁ b₁ e₁.
+    parted (parseByte bs) _ e λ map m₁ b₁ e₁.
     checked 2 (bit 3 map) e₁ λ t e₂.
-    parted (field (bit 0 map) 3 1 5 4 m₁) _ e₂ λ g m₂ b₂ e₃.
+    parted (parseField (bit 0 map) 3 1 5 4 m₁) _ e₂ λ g m₂ b₂ e₃.
     let fg = field-forth (bit 0 map) 3 1 5 4 m₁ (omega arith) (omega arith) b₂ in
-    parted (field (bit 1 map) 3 1 4 2 m₂) _ e₃ λ k m₃ b₃ e₄.
-    parted (field (bit 2 map) 3 0 g 0 m₃) _ e₄ λ start m₄ b₄ e₅.
-    parted (ranged 3 0 g m₄) _ e₅ λ target m₅ b₅ e₆.
-    parted (field (bit 4 map) 3 0 16 0 m₅) _ e₆ λ a m₆ b₆ e₇.
-    parted (field (bit 5 map) 3 0 16 0 m₆) _ e₇ λ b m₇ b₇ e₈.
+    parted (parseField (bit 1 map) 3 1 4 2 m₂) _ e₃ λ k m₃ b₃ e₄.
+    parted (parseField (bit 2 map) 3 0 g 0 m₃) _ e₄ λ start m₄ b₄ e₅.
+    parted (parseRanged 3 0 g m₄) _ e₅ λ target m₅ b₅ e₆.
+    parted (parseField (bit 4 map) 3 0 16 0 m₅) _ e₆ λ a m₆ b₆ e₇.
+    parted (parseField (bit 5 map) 3 0 16 0 m₆) _ e₇ λ b m₇ b₇ e₈.
     carried (HeadRead bs) e₈
     (head-made (byte-forth bs b₁) t fg
     (field-forth (bit 1 map) 3 1 4 2 m₂ (omega arith) (omega arith) b₃)

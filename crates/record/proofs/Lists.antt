@@ -9,7 +9,7 @@ use lib.Seq.{length-take-le, take-suc-set, drop-set-lt, drop-cons}
 use Rattle.model.specs.declared.Rule.{Rule}
 use Rattle.model.specs.Results.{refused, accepted}
 use Rattle.model.specs.Rules.{zeroRule}
-use Rattle.record.specs.Reader.{Read, andRead, rule, ruleList}
+use Rattle.record.specs.Reader.{Read, andRead, parseRule, parseRuleList}
 use Rattle.record.specs.Held.{Padded}
 
 -- As many rules are listed as are counted ..
@@ -56,25 +56,25 @@ pub record Progress (wanted : Read (List Rule)) (g n i : ℕ) (rs : List Rule) (
   pub low : i ≤ n
   pub fits : n ≤ 64
   pub padded : Padded i rs
-  pub same : wanted ≡ prepend (take i rs) (ruleList g (n - i) left)
+  pub same : wanted ≡ prepend (take i rs) (parseRuleList g (n - i) left)
 
 -- No rule is read yet.
-pub starts : {wanted : Read (List Rule)} (g n : ℕ) (left : List ℕ) → n ≤ 64 → wanted ≡ ruleList g n left
+pub starts : {wanted : Read (List Rule)} (g n : ℕ) (left : List ℕ) → n ≤ 64 → wanted ≡ parseRuleList g n left
     → Progress wanted g n 0 (replicate 64 zeroRule) left
 starts g n left h e =
     record {
       low = omega arith;
       fits = h;
       padded = padded-none;
-      same = let all : n - 0 ≡ n = omega arith in rw all (e ∙ prepend-nil (ruleList g n left));
+      same = let all : n - 0 ≡ n = omega arith in rw all (e ∙ prepend-nil (parseRuleList g n left));
     }
 
 module _ {wanted : Read (List Rule)} {g n i : ℕ} {rs : List Rule} {left : List ℕ}
     (p : Progress wanted g n i rs left) where
   -- The next rule is read ..
-  pub steps : {r : Rule} {rest : List ℕ} → i < n → rule g left ≡ accepted (r, rest)
+  pub steps : {r : Rule} {rest : List ℕ} → i < n → parseRule g left ≡ accepted (r, rest)
       → Progress wanted g n (i + 1) (set rs i r) rest
-  unfolding ruleList
+  unfolding parseRuleList
   steps {r} {rest} h e =
       let cut : n - i ≡ suc (n - suc i) = omega arith in
       let inside : i < length rs = omega arith in
@@ -84,16 +84,16 @@ module _ {wanted : Read (List Rule)} {g n i : ℕ} {rs : List Rule} {left : List
         fits = p .fits;
         padded = padded-more r (p .padded) (omega arith);
         same =
-            rw (take-suc-set rs i r inside, ← prepend-cons (take i rs) r (ruleList g (n - suc i) rest))
+            rw (take-suc-set rs i r inside, ← prepend-cons (take i rs) r (parseRuleList g (n - suc i) rest))
             (rw (cut, e) at (p .same));
       })
 
   -- .. or refused, and with it the list ..
-  pub breaks : {m : ℕ} → i < n → rule g left ≡ refused m → refused m ≡ wanted
-  unfolding ruleList
+  pub breaks : {m : ℕ} → i < n → parseRule g left ≡ refused m → refused m ≡ wanted
+  unfolding parseRuleList
   breaks h e = let cut : n - i ≡ suc (n - suc i) = omega arith in sym (rw (cut, e) at (p .same))
 
   -- .. until none is left.
   pub stops : n ≤ i → accepted (take i rs, left) ≡ wanted
-  unfolding ruleList
+  unfolding parseRuleList
   stops h = let none-left : n - i ≡ 0 = omega arith in sym (rw (none-left, append-nil) at (p .same))

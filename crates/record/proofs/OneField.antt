@@ -11,7 +11,7 @@ use borrow.Author.Tests.{le-leb, lt-ltb, eq-eqb, ne-eqb}
 use Rattle.model.proofs.Results.{apart, accepted-same, checked, through}
 use Rattle.model.proofs.Tests.{both, order}
 use Rattle.model.specs.Results.{accepted}
-use Rattle.record.specs.Reader.{Read, andRead, inRange, byte, ranged, field}
+use Rattle.record.specs.Reader.{Read, andRead, inRange, parseByte, parseRanged, parseField}
 use Rattle.writer.specs.Writer.{fieldOf}
 
 -- What was read in two parts was read in each.
@@ -30,21 +30,21 @@ pub carried : {A : Type 0} (P : A → List ℕ → Type 0) {a b : A} {r s : List
 carried P e p = let z = value-same e in subst₂ P (z .0) (z .1) p
 
 -- One byte was read.
-pub byte-forth : (bs : List ℕ) {b : ℕ} {rest : List ℕ} → byte bs ≡ accepted (b, rest) → bs ≡ b ∷ rest
-unfolding byte
+pub byte-forth : (bs : List ℕ) {b : ℕ} {rest : List ℕ} → parseByte bs ≡ accepted (b, rest) → bs ≡ b ∷ rest
+unfolding parseByte
 byte-forth [] e = apart e
 byte-forth (x ∷ xs) {b} {rest} e = let z = value-same e in rw (z .0, z .1)
 
 -- A byte in range.
-pub ranged-back : (n : ℕ) {low limit b : ℕ} (rest : List ℕ) → low ≤ b → b < limit → ranged n low limit (b ∷ rest) ≡ accepted (b, rest)
-unfolding ranged byte
+pub ranged-back : (n : ℕ) {low limit b : ℕ} (rest : List ℕ) → low ≤ b → b < limit → parseRanged n low limit (b ∷ rest) ≡ accepted (b, rest)
+unfolding parseRanged parseByte
 ranged-back n rest h k = rw (le-leb _ _ h, lt-ltb _ _ k)
 
-pub ranged-forth : (n low limit : ℕ) (bs : List ℕ) {b : ℕ} {rest : List ℕ} → ranged n low limit bs ≡ accepted (b, rest)
+pub ranged-forth : (n low limit : ℕ) (bs : List ℕ) {b : ℕ} {rest : List ℕ} → parseRanged n low limit bs ≡ accepted (b, rest)
     → (bs ≡ b ∷ rest) × (low ≤ b) × (b < limit)
-unfolding ranged
+unfolding parseRanged
 ranged-forth n low limit bs {b} {rest} e =
-    parted (byte bs) _ e λ x mid r f.
+    parted (parseByte bs) _ e λ x mid r f.
     checked n (inRange low limit x) f λ t v.
     let z = both (leb low x) (ltb x limit) .0 t in
     carried (λ b rest. (bs ≡ b ∷ rest) × (low ≤ b) × (b < limit)) v
@@ -62,8 +62,8 @@ is-default default v y n = elim (ℕ-discrete v default) [ yes e ↦ y (eq-eqb v
 -- A field that is written is read.
 pub field-back : (n default v : ℕ) {low limit : ℕ} (rest : List ℕ) {present : Bool} → present ≡ not (eqb v default)
     → low ≤ v → v < limit
-    → field present n low limit default (fieldOf default v ++ rest) ≡ accepted (v, rest)
-unfolding field fieldOf
+    → parseField present n low limit default (fieldOf default v ++ rest) ≡ accepted (v, rest)
+unfolding parseField fieldOf
 field-back n default v rest p h k =
     is-default default v (λ t e. rw (p, t, e)) (λ t. rw (p, t) (rw (ranged-back n rest h k, t)))
 
@@ -77,14 +77,14 @@ pub record FieldRead (present : Bool) (low limit default v : ℕ) (bs rest : Lis
 -- A field that is read was written so, where its default is in range.
 pub field-forth : (present : Bool) (n low limit default : ℕ) (bs : List ℕ) {v : ℕ} {rest : List ℕ} → low ≤ default
     → default < limit
-    → field present n low limit default bs ≡ accepted (v, rest) → FieldRead present low limit default v bs rest
-unfolding field fieldOf
+    → parseField present n low limit default bs ≡ accepted (v, rest) → FieldRead present low limit default v bs rest
+unfolding parseField fieldOf
 field-forth false n low limit default bs {v} {rest} h k e =
     let z = value-same e in
     let t : eqb v default ≡ true = eq-eqb v default (sym (z .0)) in
     record { bytes = rw t (z .1); stands = rw t; least = rw (z .0) at h; most = rw (z .0) at k }
 field-forth true n low limit default bs {v} {rest} h k e =
-    parted (ranged n low limit bs) _ e λ b mid r f.
+    parted (parseRanged n low limit bs) _ e λ b mid r f.
     checked 5 (not (eqb b default)) f λ t w.
     let d = denied (eqb b default) t in
     let z = ranged-forth n low limit bs r in

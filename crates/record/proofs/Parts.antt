@@ -1,21 +1,21 @@
--- Fields read one after another: a refusal is the answer, and after a field that was read comes the next one.
+-- Parts read one after another: a refusal is the answer, and after a part that was read comes the next one.
 use mathlib.Core.List.{List}
 use mathlib.Core.Path.{_≡_, sym}
 use Prim.Native.Nat.{ℕ, _≤_, zero-le}
 use lib.ListN.{length}
-use Rattle.model.specs.Results.{refused}
-use Rattle.record.specs.declared.Part.{Part}
+use Rattle.model.specs.Results.{Result, refused}
 use Rattle.record.specs.Reader.{Read}
-use Rattle.record.specs.Held.{Reads, ReadsPart, partOf, partPlace}
+use Rattle.record.specs.Held.{Reads, over, placeOf}
 
--- What was wanted of a field whose answer is known ..
-pub got : {s : List ℕ} {r x : Part} {wanted : Read ℕ} → ReadsPart s r wanted → r ≡ x → wanted ≡ partOf s x
-got reads e = rw e at (sym (reads .same))
+-- What was wanted of a part whose answer is known ..
+module _ {R A : Type 0} (of : R → Result (A × ℕ)) {s : List ℕ} {r x : R} {wanted : Read A} where
+  pub got : Reads s (of r) wanted → r ≡ x → wanted ≡ over s (of x)
+  got reads e = rw e at (sym (reads .same))
 
--- .. and where it ends.
-pub ends : {s : List ℕ} {r x : Part} {wanted : Read ℕ} → ReadsPart s r wanted → r ≡ x → partPlace x ≤ length s
-ends reads e = rw e at (reads .within)
+  -- .. and where it ends.
+  pub ends : Reads s (of r) wanted → r ≡ x → placeOf (of x) ≤ length s
+  ends reads e = rw e at (reads .within)
 
 -- A refusal has no place to keep within the bytes.
-pub refuses : {A : Type 0} {s : List ℕ} {n : ℕ} {wanted : Read A} → refused n ≡ wanted → Reads s (refused n) 0 wanted
+pub refuses : {A : Type 0} {s : List ℕ} {n : ℕ} {wanted : Read A} → refused n ≡ wanted → Reads s (refused n) wanted
 refuses e = record { same = e; within = zero-le }

@@ -19,8 +19,8 @@ use Rattle.model.proofs.Results.{apart}
 use Rattle.record.specs.declared.Reading.{Reading}
 use Rattle.record.specs.Kept.{Unused, Kept, Keeps}
 use Rattle.record.specs.Held.{readingOf}
-use Rattle.record.specs.Reader.{Read, rules, Head, head, threadOf, modelOf, front, ended, readOf}
-use Rattle.writer.specs.Writer.{weight, rulesOf, mapOf, headBytes, recordOf}
+use Rattle.record.specs.Reader.{Read, parseRules, Head, parseHead, threadOf, modelOf, parseFront, ended, readOf}
+use Rattle.writer.specs.Writer.{weightOf, rulesOf, mapOf, headBytes, recordOf}
 use Rattle.record.proofs.OneField.{parted, carried, value-same}
 use Rattle.record.proofs.Maps.{HeadBits, head-sum}
 use Rattle.record.proofs.ThreadRules.{rules-back, RulesRead, rules-forth, thread-fits, rules-bytes}
@@ -42,8 +42,8 @@ unfolding recordOf headBytes headWith headOf
 record-bytes m rest = simp append-assoc
 
 -- A record that is written is read.
-pub front-back : (m : Model) → Valid m → Places m → (rest : List ℕ) → front (recordOf m ++ rest) ≡ accepted (tidy m, rest)
-unfolding front headOf tidy
+pub front-back : (m : Model) → Valid m → Places m → (rest : List ℕ) → parseFront (recordOf m ++ rest) ≡ accepted (tidy m, rest)
+unfolding parseFront headOf tidy
 front-back m v p rest =
     let f = valid-fits m .0 v in
     let b = map-bits m in
@@ -65,7 +65,7 @@ pub record FrontRead (bs : List ℕ) (m : Model) (rest : List ℕ) : Type 0 wher
 same-map : (h : Head) (ra rb : List Rule) → h .map < 256
     → HeadBits (h .map) (eqb (h .g) 4) (eqb (h .k) 2) (eqb (h .start) 0) (eqb (h .a) 0) (eqb (h .b) 0) (eqb (length ra) 0) (eqb (length rb) 0)
     → mapOf (modelOf h ra rb) ≡ h .map
-unfolding mapOf weight
+unfolding mapOf weightOf
 same-map h ra rb k b = head-sum (h .map) k b
 
 -- Head and rules that were read make the record.
@@ -93,12 +93,12 @@ front-made {bs} {m₁} {m₂} {rest} {h} {ra} {rb} hd a b =
     }
 
 -- A record that is read was written so.
-pub front-forth : (bs : List ℕ) {m : Model} {rest : List ℕ} → front bs ≡ accepted (m, rest) → FrontRead bs m rest
-unfolding front
+pub front-forth : (bs : List ℕ) {m : Model} {rest : List ℕ} → parseFront bs ≡ accepted (m, rest) → FrontRead bs m rest
+unfolding parseFront
 front-forth bs e =
-    parted (head bs) _ e λ h m₁ b₁ e₁.
-    parted (rules (bit 6 (h .map)) (h .g) m₁) _ e₁ λ ra m₂ b₂ e₂.
-    parted (rules (bit 7 (h .map)) (h .g) m₂) _ e₂ λ rb m₃ b₃ e₃.
+    parted (parseHead bs) _ e λ h m₁ b₁ e₁.
+    parted (parseRules (bit 6 (h .map)) (h .g) m₁) _ e₁ λ ra m₂ b₂ e₂.
+    parted (parseRules (bit 7 (h .map)) (h .g) m₂) _ e₂ λ rb m₃ b₃ e₃.
     carried (FrontRead bs) e₃ (front-made (head-forth bs b₁) (rules-forth (bit 6 (h .map)) (h .g) m₁ b₂) (rules-forth (bit 7 (h .map)) (h .g) m₂ b₃))
 
 -- Nothing is left of a whole record.
@@ -110,7 +110,7 @@ whole (b ∷ bs) rest e = apart e
 pub read-kept : (bs : List ℕ) {m : Model} {rest : List ℕ} → readOf bs ≡ accepted (m, rest) → getD bs 0 0 < 256 → Kept bs m
 unfolding readOf
 read-kept bs e k =
-    parted (front bs) ended e λ n mid b f.
+    parted (parseFront bs) ended e λ n mid b f.
     let w = whole mid _ f in
     let r = front-forth bs b in
     subst (Kept bs) (w .1)
@@ -138,7 +138,7 @@ pub written-read : (m : Model) → Valid m → Places m → (readOf (recordOf m)
 unfolding readOf tidy headOf
 written-read m v p =
     let f = valid-fits m .0 v in
-    let e : front (recordOf m) ≡ accepted (tidy m, []) = rw append-nil at (front-back m v p []) in (
+    let e : parseFront (recordOf m) ≡ accepted (tidy m, []) = rw append-nil at (front-back m v p []) in (
       rw e,
       record {
         g = refl;

@@ -17,22 +17,22 @@ use Rattle.model.specs.Fits.{RightFits, RuleFits}
 use Rattle.model.specs.Results.{accepted}
 use Rattle.model.proofs.Results.{checked}
 use Rattle.model.proofs.Tests.{order}
-use Rattle.record.specs.Reader.{byte, field, ruleMap, symbol, right, rule, ruleList}
-use Rattle.writer.specs.Writer.{fieldOf, weight, symbolsOf, symbolBits, ruleOf, ruleListOf}
+use Rattle.record.specs.Reader.{parseByte, parseField, ruleMap, parseSymbol, parseRight, parseRule, parseRuleList}
+use Rattle.writer.specs.Writer.{fieldOf, weightOf, symbolsOf, symbolBits, ruleOf, ruleListOf}
 use Rattle.record.proofs.OneField.{parted, carried, byte-forth}
 use Rattle.record.proofs.OneField.{ranged-back, ranged-forth, field-back, FieldRead, field-forth}
 use Rattle.record.proofs.Maps.{newBits, rule-sum, hasFirst, hasSecond, rule-bits}
 
 -- A symbol both ways.
-symbol-back : (b : ℕ) (rest : List ℕ) → b ≤ 15 → symbol (b ∷ rest) ≡ accepted (b, rest)
+symbol-back : (b : ℕ) (rest : List ℕ) → b ≤ 15 → parseSymbol (b ∷ rest) ≡ accepted (b, rest)
 symbol-back b rest h = ranged-back 4 rest zero-le (omega arith)
 
-symbol-forth : (bs : List ℕ) {b : ℕ} {rest : List ℕ} → symbol bs ≡ accepted (b, rest) → (bs ≡ b ∷ rest) × (b ≤ 15)
+symbol-forth : (bs : List ℕ) {b : ℕ} {rest : List ℕ} → parseSymbol bs ≡ accepted (b, rest) → (bs ≡ b ∷ rest) × (b ≤ 15)
 symbol-forth bs e = let r = ranged-forth 4 0 16 bs e in (r .0, omega arith)
 
 -- The new symbols of a rule that are written are read.
-right-back : (x : Right) → RightFits x → (rest : List ℕ) → right (hasFirst x) (hasSecond x) (symbolsOf x ++ rest) ≡ accepted (x, rest)
-unfolding right
+right-back : (x : Right) → RightFits x → (rest : List ℕ) → parseRight (hasFirst x) (hasSecond x) (symbolsOf x ++ rest) ≡ accepted (x, rest)
+unfolding parseRight
 right-back Remove f rest = refl
 right-back (Swap a) f rest = rw (symbol-back (a .0) rest f)
 right-back (Push a b) f rest = rw (symbol-back (a .0) (b .0 ∷ rest) (f .0), symbol-back (b .0) rest (f .1))
@@ -44,18 +44,18 @@ record RightRead (first second : Bool) (x : Right) (bs rest : List ℕ) : Type 0
   fits : RightFits x
 
 -- New symbols that are read were written so.
-right-forth : (first second : Bool) (bs : List ℕ) {x : Right} {rest : List ℕ} → right first second bs ≡ accepted (x, rest)
+right-forth : (first second : Bool) (bs : List ℕ) {x : Right} {rest : List ℕ} → parseRight first second bs ≡ accepted (x, rest)
     → RightRead first second x bs rest
-unfolding right
+unfolding parseRight
 right-forth false second bs e =
     carried (λ x rest. RightRead false second x bs rest) e (record { bytes = refl; bits = refl; fits = tt })
 right-forth true false bs e =
-    parted (symbol bs) _ e λ a mid r f.
+    parted (parseSymbol bs) _ e λ a mid r f.
     let z = symbol-forth bs r in
     carried (λ x rest. RightRead true false x bs rest) f (record { bytes = z .0; bits = refl; fits = z .1 })
 right-forth true true bs e =
-    parted (symbol bs) _ e λ a mid r f.
-    parted (symbol mid) _ f λ b end s g.
+    parted (parseSymbol bs) _ e λ a mid r f.
+    parted (parseSymbol mid) _ f λ b end s g.
     let z = symbol-forth bs r in
     let y = symbol-forth mid s in
     carried (λ x rest. RightRead true true x bs rest) g (record { bytes = rw (← y .0) (z .0); bits = refl; fits = (z .1, y .1) })
@@ -65,8 +65,8 @@ halves : (a b : ℕ) → b ≤ 15 → ((a * 16 + b) / 16 ≡ a) × ((a * 16 + b)
 halves a b h = (omega arith, omega arith)
 
 -- A rule that is written is read.
-pub rule-back : (g : ℕ) (r : Rule) → RuleFits g r → (rest : List ℕ) → rule g (ruleOf r ++ rest) ≡ accepted (r, rest)
-unfolding rule ruleOf weight byte
+pub rule-back : (g : ℕ) (r : Rule) → RuleFits g r → (rest : List ℕ) → parseRule g (ruleOf r ++ rest) ≡ accepted (r, rest)
+unfolding parseRule ruleOf weightOf parseByte
 rule-back g r f rest =
     let h = halves (r .before .0) (r .symbol .0) (f .top) in
     let b = rule-bits (eqb (r .after .0) (r .before .0)) (r .right) in
@@ -92,7 +92,7 @@ rule-made : {g map pair next : ℕ} {new : Right} {bs m₁ m₂ m₃ rest : List
     → bs ≡ map ∷ m₁ → T (ruleMap map) → m₁ ≡ pair ∷ m₂ → pair / 16 < g
     → FieldRead (bit 0 map) 0 g (pair / 16) next m₂ m₃ → RightRead (bit 1 map) (bit 2 map) new m₃ rest
     → RuleRead g bs (record { before = record { 0 = pair / 16 }; symbol = record { 0 = pair % 16 }; after = record { 0 = next }; right = new }) rest
-unfolding ruleOf weight
+unfolding ruleOf weightOf
 rule-made {g} {map} {pair} {next} {new} {bs} {m₁} {m₂} {m₃} {rest} e t p low f x =
     let sum : cond (eqb next (pair / 16)) 0 1 + symbolBits new ≡ map = rule-sum map t (eqb next (pair / 16)) new (f .stands) (x .bits) in
     record {
@@ -101,16 +101,16 @@ rule-made {g} {map} {pair} {next} {new} {bs} {m₁} {m₂} {m₃} {rest} e t p l
     }
 
 -- A rule that is read was written so.
-rule-forth : (g : ℕ) (bs : List ℕ) {r : Rule} {rest : List ℕ} → rule g bs ≡ accepted (r, rest) → RuleRead g bs r rest
-unfolding rule
+rule-forth : (g : ℕ) (bs : List ℕ) {r : Rule} {rest : List ℕ} → parseRule g bs ≡ accepted (r, rest) → RuleRead g bs r rest
+unfolding parseRule
 rule-forth g bs {r} {rest} e =
-    parted (byte bs) _ e λ map m₁ b₁ e₁.
+    parted (parseByte bs) _ e λ map m₁ b₁ e₁.
     checked 4 (ruleMap map) e₁ λ t e₂.
-    parted (byte m₁) _ e₂ λ pair m₂ b₂ e₃.
+    parted (parseByte m₁) _ e₂ λ pair m₂ b₂ e₃.
     checked 4 (ltb (pair / 16) g) e₃ λ s e₄.
     let low = order (suc (pair / 16)) g .0 s in
-    parted (field (bit 0 map) 4 0 g (pair / 16) m₂) _ e₄ λ next m₃ b₃ e₅.
-    parted (right (bit 1 map) (bit 2 map) m₃) _ e₅ λ new m₄ b₄ e₆.
+    parted (parseField (bit 0 map) 4 0 g (pair / 16) m₂) _ e₄ λ next m₃ b₃ e₅.
+    parted (parseRight (bit 1 map) (bit 2 map) m₃) _ e₅ λ new m₄ b₄ e₆.
     carried (RuleRead g bs) e₆
     (rule-made (byte-forth bs b₁) t (byte-forth m₁ b₂) low (field-forth (bit 0 map) 4 0 g (pair / 16) m₂ zero-le low b₃)
     (right-forth (bit 1 map) (bit 2 map) m₃ b₄))
@@ -122,8 +122,8 @@ RulesFit g (r ∷ rs) = RuleFits g r × RulesFit g rs
 
 -- A list of rules that is written is read.
 pub list-back : (g : ℕ) (rs : List Rule) → RulesFit g rs → (rest : List ℕ)
-    → ruleList g (length rs) (ruleListOf rs ++ rest) ≡ accepted (rs, rest)
-unfolding ruleList ruleListOf
+    → parseRuleList g (length rs) (ruleListOf rs ++ rest) ≡ accepted (rs, rest)
+unfolding parseRuleList ruleListOf
 list-back g [] f rest = refl
 list-back g (r ∷ rs) f rest =
     rw (append-assoc (ruleOf r) (ruleListOf rs) rest, rule-back g r (f .0) (ruleListOf rs ++ rest), list-back g rs (f .1) rest)
@@ -135,13 +135,13 @@ pub record ListRead (g n : ℕ) (bs : List ℕ) (rs : List Rule) (rest : List �
   pub fits : RulesFit g rs
 
 -- A list of rules that is read was written so.
-pub list-forth : (g n : ℕ) (bs : List ℕ) {rs : List Rule} {rest : List ℕ} → ruleList g n bs ≡ accepted (rs, rest)
+pub list-forth : (g n : ℕ) (bs : List ℕ) {rs : List Rule} {rest : List ℕ} → parseRuleList g n bs ≡ accepted (rs, rest)
     → ListRead g n bs rs rest
-unfolding ruleList ruleListOf
+unfolding parseRuleList ruleListOf
 list-forth g zero bs e = carried (ListRead g 0 bs) e (record { bytes = refl; size = refl; fits = tt })
 list-forth g (suc n) bs e =
-    parted (rule g bs) _ e λ r m₁ b₁ e₁.
-    parted (ruleList g n m₁) _ e₁ λ rs m₂ b₂ e₂.
+    parted (parseRule g bs) _ e λ r m₁ b₁ e₁.
+    parted (parseRuleList g n m₁) _ e₁ λ rs m₂ b₂ e₂.
     let first = rule-forth g bs b₁ in
     let others = list-forth g n m₁ b₂ in
     carried (ListRead g (suc n) bs) e₂

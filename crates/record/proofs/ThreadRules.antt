@@ -12,7 +12,7 @@ use Rattle.model.specs.declared.Thread.{Thread}
 use Rattle.model.specs.Results.{accepted}
 use Rattle.model.specs.Rules.{zeroRule}
 use Rattle.model.specs.Fits.{RuleFits, ThreadFits}
-use Rattle.record.specs.Reader.{field, ruleList, rules, threadOf}
+use Rattle.record.specs.Reader.{parseField, parseRuleList, parseRules, threadOf}
 use Rattle.writer.specs.Writer.{fieldOf, ruleListOf, rulesOf}
 use Rattle.record.proofs.OneField.{parted, field-back, field-forth}
 use Rattle.record.proofs.RuleLists.{RulesFit, list-back, list-forth}
@@ -26,14 +26,14 @@ fit-list g (suc n) (x ∷ xs) f = (f 0 (omega arith), fit-list g n xs (λ r h. f
 -- The rules of a thread that are written are read.
 pub rules-back : {g : ℕ} (t : Thread) → ThreadFits g t → length (t .rules) ≡ 64 → (rest : List ℕ) {present : Bool}
     → present ≡ not (eqb (t .count) 0)
-    → rules present g (rulesOf t ++ rest) ≡ accepted (take (t .count) (t .rules), rest)
-unfolding rules rulesOf
+    → parseRules present g (rulesOf t ++ rest) ≡ accepted (take (t .count) (t .rules), rest)
+unfolding parseRules rulesOf
 rules-back {g} t f n rest e =
     let rs : List Rule = take (t .count) (t .rules) in
     let size : length rs ≡ t .count = length-take-le (t .count) (t .rules) (omega (arith, f .count)) in
     let most : t .count < 65 = omega (arith, f .count) in
     rw (append-assoc (fieldOf 0 (t .count)) (ruleListOf rs) rest, field-back 4 0 (t .count) (ruleListOf rs ++ rest) e zero-le most)
-    (subst (λ k. ruleList g k (ruleListOf rs ++ rest) ≡ accepted (rs, rest)) size (list-back g rs (fit-list g (t .count) (t .rules) (f .rules)) rest))
+    (subst (λ k. parseRuleList g k (ruleListOf rs ++ rest) ≡ accepted (rs, rest)) size (list-back g rs (fit-list g (t .count) (t .rules) (f .rules)) rest))
 
 -- What reading the rules of a thread tells.
 pub record RulesRead (g : ℕ) (present : Bool) (bs : List ℕ) (rs : List Rule) (rest : List ℕ) : Type 0 where
@@ -44,10 +44,10 @@ pub record RulesRead (g : ℕ) (present : Bool) (bs : List ℕ) (rs : List Rule)
 
 -- Rules that are read were written so.
 pub rules-forth : (present : Bool) (g : ℕ) (bs : List ℕ) {rs : List Rule} {rest : List ℕ}
-    → rules present g bs ≡ accepted (rs, rest) → RulesRead g present bs rs rest
-unfolding rules
+    → parseRules present g bs ≡ accepted (rs, rest) → RulesRead g present bs rs rest
+unfolding parseRules
 rules-forth present g bs {rs} {rest} e =
-    parted (field present 4 0 65 0 bs) _ e λ n mid b f.
+    parted (parseField present 4 0 65 0 bs) _ e λ n mid b f.
     let c = field-forth present 4 0 65 0 bs zero-le (omega arith) b in
     let l = list-forth g n mid f in
     record {

@@ -26,46 +26,46 @@ abbrev pub inRange : ℕ → ℕ → ℕ → Bool
 inRange low limit b = leb low b && ltb b limit
 
 -- One byte; 1 where the record ends before it.
-unfoldable pub byte : List ℕ → Read ℕ
-byte [] = refused 1
-byte (b ∷ rest) = accepted (b, rest)
+unfoldable pub parseByte : List ℕ → Read ℕ
+parseByte [] = refused 1
+parseByte (b ∷ rest) = accepted (b, rest)
 
 -- A byte in range, or refusal n.
-unfoldable pub ranged : ℕ → ℕ → ℕ → List ℕ → Read ℕ
-ranged n low limit bs = andRead (byte bs) (λ b rest. need n (inRange low limit b) (accepted (b, rest)))
+unfoldable pub parseRanged : ℕ → ℕ → ℕ → List ℕ → Read ℕ
+parseRanged n low limit bs = andRead (parseByte bs) (λ b rest. need n (inRange low limit b) (accepted (b, rest)))
 
 -- A field with a bit in the map: absent, it has its default; else a byte in range that does not say what absence would (5).
-unfoldable pub field : Bool → ℕ → ℕ → ℕ → ℕ → List ℕ → Read ℕ
-field false n low limit default bs = accepted (default, bs)
-field true n low limit default bs =
-    andRead (ranged n low limit bs) (λ b rest. need 5 (not (eqb b default)) (accepted (b, rest)))
+unfoldable pub parseField : Bool → ℕ → ℕ → ℕ → ℕ → List ℕ → Read ℕ
+parseField false n low limit default bs = accepted (default, bs)
+parseField true n low limit default bs =
+    andRead (parseRanged n low limit bs) (λ b rest. need 5 (not (eqb b default)) (accepted (b, rest)))
 
 -- A rule's map has bits 0 to 2 alone, and bit 2 only beside bit 1.
 abbrev pub ruleMap : ℕ → Bool
 ruleMap map = ltb map 8 && (bit 1 map || not (bit 2 map))
 
 -- A new symbol of a rule.
-abbrev pub symbol : List ℕ → Read ℕ
-symbol bs = ranged 4 0 16 bs
+abbrev pub parseSymbol : List ℕ → Read ℕ
+parseSymbol bs = parseRanged 4 0 16 bs
 
 -- The new symbols of a rule, by whether there is a first and a second.
-unfoldable pub right : Bool → Bool → List ℕ → Read Right
-right false second bs = accepted (Remove, bs)
-right true false bs = andRead (symbol bs) (λ a rest. accepted (Swap (record { 0 = a }), rest))
-right true true bs =
-    andRead (symbol bs) (λ a rest.
-    andRead (symbol rest) (λ b rest. accepted (Push (record { 0 = a }) (record { 0 = b }), rest)))
+unfoldable pub parseRight : Bool → Bool → List ℕ → Read Right
+parseRight false second bs = accepted (Remove, bs)
+parseRight true false bs = andRead (parseSymbol bs) (λ a rest. accepted (Swap (record { 0 = a }), rest))
+parseRight true true bs =
+    andRead (parseSymbol bs) (λ a rest.
+    andRead (parseSymbol rest) (λ b rest. accepted (Push (record { 0 = a }) (record { 0 = b }), rest)))
 
 -- A rule: its map; its before state and symbol in the halves of one byte; the after state, by default the before state;
 -- the new symbols.
-unfoldable pub rule : ℕ → List ℕ → Read Rule
-rule g bs =
-    andRead (byte bs) (λ map rest.
+unfoldable pub parseRule : ℕ → List ℕ → Read Rule
+parseRule g bs =
+    andRead (parseByte bs) (λ map rest.
     need 4 (ruleMap map)
-    (andRead (byte rest) (λ pair rest.
+    (andRead (parseByte rest) (λ pair rest.
     need 4 (ltb (pair / 16) g)
-    (andRead (field (bit 0 map) 4 0 g (pair / 16) rest) (λ next rest.
-    andRead (right (bit 1 map) (bit 2 map) rest) (λ new rest.
+    (andRead (parseField (bit 0 map) 4 0 g (pair / 16) rest) (λ next rest.
+    andRead (parseRight (bit 1 map) (bit 2 map) rest) (λ new rest.
     accepted (
       record {
         before = record { 0 = pair / 16 };
@@ -77,13 +77,13 @@ rule g bs =
     )))))))
 
 -- So many rules, one after another.
-unfoldable pub ruleList : ℕ → ℕ → List ℕ → Read (List Rule)
-ruleList g zero bs = accepted ([], bs)
-ruleList g (suc n) bs = andRead (rule g bs) (λ r rest. andRead (ruleList g n rest) (λ rs rest. accepted (r ∷ rs, rest)))
+unfoldable pub parseRuleList : ℕ → ℕ → List ℕ → Read (List Rule)
+parseRuleList g zero bs = accepted ([], bs)
+parseRuleList g (suc n) bs = andRead (parseRule g bs) (λ r rest. andRead (parseRuleList g n rest) (λ rs rest. accepted (r ∷ rs, rest)))
 
 -- The rules of a thread: a count of at most 64 (4) that is not 0 (5), and then the rules; none where the bit is absent.
-unfoldable pub rules : Bool → ℕ → List ℕ → Read (List Rule)
-rules present g bs = andRead (field present 4 0 65 0 bs) (λ n rest. ruleList g n rest)
+unfoldable pub parseRules : Bool → ℕ → List ℕ → Read (List Rule)
+parseRules present g bs = andRead (parseField present 4 0 65 0 bs) (λ n rest. parseRuleList g n rest)
 
 -- The head fields, and the map, whose last two bits stand for the rule lists.
 pub record Head : Type 0 where
@@ -96,21 +96,21 @@ pub record Head : Type 0 where
   pub b : ℕ
 
 -- The head after its map, G and K: the two states, and the first symbols.
-abbrev pub headRest : ℕ → ℕ → ℕ → List ℕ → Read Head
-headRest map g k bs =
-    andRead (field (bit 2 map) 3 0 g 0 bs) (λ start rest.
-    andRead (ranged 3 0 g rest) (λ target rest.
-    andRead (field (bit 4 map) 3 0 16 0 rest) (λ a rest.
-    andRead (field (bit 5 map) 3 0 16 0 rest) (λ b rest.
+abbrev pub parseHeadRest : ℕ → ℕ → ℕ → List ℕ → Read Head
+parseHeadRest map g k bs =
+    andRead (parseField (bit 2 map) 3 0 g 0 bs) (λ start rest.
+    andRead (parseRanged 3 0 g rest) (λ target rest.
+    andRead (parseField (bit 4 map) 3 0 16 0 rest) (λ a rest.
+    andRead (parseField (bit 5 map) 3 0 16 0 rest) (λ b rest.
     accepted (record { map = map; g = g; k = k; start = start; target = target; a = a; b = b }, rest)))))
 
 -- The head: the map, whose bit 3 stands (2), and the head fields in bit order.
-unfoldable pub head : List ℕ → Read Head
-head bs =
-    andRead (byte bs) (λ map rest.
+unfoldable pub parseHead : List ℕ → Read Head
+parseHead bs =
+    andRead (parseByte bs) (λ map rest.
     need 2 (bit 3 map)
-    (andRead (field (bit 0 map) 3 1 5 4 rest) (λ g rest.
-    andRead (field (bit 1 map) 3 1 4 2 rest) (λ k rest. headRest map g k rest))))
+    (andRead (parseField (bit 0 map) 3 1 5 4 rest) (λ g rest.
+    andRead (parseField (bit 1 map) 3 1 4 2 rest) (λ k rest. parseHeadRest map g k rest))))
 
 -- A thread with a first symbol and these rules; the unused places are zero.
 abbrev pub threadOf : ℕ → List Rule → Thread
@@ -130,11 +130,11 @@ modelOf h ra rb =
     }
 
 -- The record at the front of a list: the head, then A's rules and B's.
-unfoldable pub front : List ℕ → Read Model
-front bs =
-    andRead (head bs) (λ h rest.
-    andRead (rules (bit 6 (h .map)) (h .g) rest) (λ ra rest.
-    andRead (rules (bit 7 (h .map)) (h .g) rest) (λ rb rest. accepted (modelOf h ra rb, rest))))
+unfoldable pub parseFront : List ℕ → Read Model
+parseFront bs =
+    andRead (parseHead bs) (λ h rest.
+    andRead (parseRules (bit 6 (h .map)) (h .g) rest) (λ ra rest.
+    andRead (parseRules (bit 7 (h .map)) (h .g) rest) (λ rb rest. accepted (modelOf h ra rb, rest))))
 
 -- Nothing is left after the last field (6).
 abbrev pub ended : Model → List ℕ → Read Model
@@ -143,4 +143,4 @@ ended m (b ∷ rest) = refused 6
 
 -- A whole record.
 unfoldable pub readOf : List ℕ → Read Model
-readOf bs = andRead (front bs) ended
+readOf bs = andRead (parseFront bs) ended

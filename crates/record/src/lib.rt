@@ -12,6 +12,7 @@ ghost use Rattle.record.specs.Written.{writtenOf, storeOf};
 mod field;
 pub mod reader;
 mod rules;
+mod zero;
 
 // What a whole record says, or the refusal's number.
 pub enum Answer {
@@ -40,11 +41,11 @@ pub fn read(bytes: &[u8]) -> Reading
     let answer = found.answer;
     let m = found.model;
     match answer {
-        Place::At(n) => {
+        Taken::At(n) => {
             if n < bytes.len() {
                 return Reading {
                     answer: Answer::Refused(6),
-                    model: reader::zero_model(),
+                    model: zero::zero_model(),
                 };
             }
             Reading {
@@ -52,7 +53,7 @@ pub fn read(bytes: &[u8]) -> Reading
                 model: m,
             }
         }
-        Place::Refused(n) => Reading {
+        Taken::Refused(n) => Reading {
             answer: Answer::Refused(n),
             model: m,
         },
@@ -133,20 +134,20 @@ pub enum RulePart {
 }
 
 // How many bytes were taken, or the refusal's number.
-pub enum Place {
+pub enum Taken {
     At(usize),
     Refused(u8),
 }
 
 // The rules of a thread as far as they were read: the first `count`; the places after them are zero.
 pub struct RuleList {
-    pub answer: Place,
+    pub answer: Taken,
     pub count: usize,
     pub rules: [Rule; 64],
 }
 
 // The model of a record at the front of a slice; all places are zero where it is refused.
 pub struct Front {
-    pub answer: Place,
+    pub answer: Taken,
     pub model: Model,
 }

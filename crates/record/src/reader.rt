@@ -3,27 +3,27 @@ use crate::Fields;
 use crate::Front;
 use crate::HeadPart;
 use crate::Part;
-use crate::Place;
 use crate::RuleList;
+use crate::Taken;
 use crate::field::byte_at;
 use crate::field::field;
 use crate::field::ranged;
 use crate::rules::read_rules;
+use crate::zero::zero_model;
 use model::Model;
 use model::Shared;
 use model::Symbol;
 use model::Thread;
-use model::ZERO_RULE;
 ghost use mathlib.Core.Path.{_≡_};
 ghost use Prim.Native.Nat.{_≤_};
 ghost use lib.ListN.{length, drop};
-ghost use Rattle.record.specs.Held.{ReadsHead, ReadsFront, Padded, listed, readingOf, zeroModel};
-ghost use Rattle.record.specs.Reader.{front, head, headRest, threadOf};
+ghost use Rattle.record.specs.Held.{Reads, headPartOf, frontOf, Padded, listed, readingOf, zeroModel};
+ghost use Rattle.record.specs.Reader.{parseFront, parseHead, parseHeadRest, threadOf};
 
 // A record at the front of a slice, and how many bytes it took.
 pub fn front(bytes: &[u8]) -> Front
-    ensures read { λ r. ⌜ ReadsFront (now (bytes .entry)) r (front (now (bytes .entry))) ⌝ }
-    ensures model { λ r. ⌜ r .model ≡ readingOf (front (now (bytes .entry))) .model ⌝ }
+    ensures read { λ r. ⌜ Reads (now (bytes .entry)) (frontOf r) (parseFront (now (bytes .entry))) ⌝ }
+    ensures model { λ r. ⌜ r .model ≡ readingOf (parseFront (now (bytes .entry))) .model ⌝ }
 {
     let h = match read_head(bytes) {
         HeadPart::Read(x) => x,
@@ -31,17 +31,17 @@ pub fn front(bytes: &[u8]) -> Front
     };
     let at = h.at;
     let list_a = read_rules(&bytes[at..], h.map / 64 % 2 == 1, h.g);
-    let place_a = list_a.answer;
-    let taken_a = match place_a {
-        Place::At(x) => x,
-        Place::Refused(n) => return refusal(n),
+    let answer_a = list_a.answer;
+    let taken_a = match answer_a {
+        Taken::At(x) => x,
+        Taken::Refused(n) => return refusal(n),
     };
     let from = at + taken_a;
     let list_b = read_rules(&bytes[from..], h.map / 128 % 2 == 1, h.g);
-    let place_b = list_b.answer;
-    let taken_b = match place_b {
-        Place::At(x) => x,
-        Place::Refused(n) => return refusal(n),
+    let answer_b = list_b.answer;
+    let taken_b = match answer_b {
+        Taken::At(x) => x,
+        Taken::Refused(n) => return refusal(n),
     };
     let model = Model {
         g: h.g,
@@ -52,37 +52,18 @@ pub fn front(bytes: &[u8]) -> Front
         b: thread(h.b, list_b),
     };
     Front {
-        answer: Place::At(from + taken_b),
+        answer: Taken::At(from + taken_b),
         model,
     }
 }
 
 // The zero model, beside a refusal.
 fn refusal(n: u8) -> Front
-    ensures { λ r. ⌜ r ≡ record { answer = Place.Refused n; model = zeroModel } ⌝ }
+    ensures { λ r. ⌜ r ≡ record { answer = Taken.Refused n; model = zeroModel } ⌝ }
 {
     Front {
-        answer: Place::Refused(n),
+        answer: Taken::Refused(n),
         model: zero_model(),
-    }
-}
-
-// A model whose places are all zero.
-pub fn zero_model() -> Model
-    ensures { λ r. ⌜ r ≡ zeroModel ⌝ }
-{
-    let t = Thread {
-        first: Symbol(0),
-        count: 0,
-        rules: [ZERO_RULE; 64],
-    };
-    Model {
-        g: 0,
-        k: 0,
-        start: Shared(0),
-        target: Shared(0),
-        a: t,
-        b: t,
     }
 }
 
@@ -101,7 +82,7 @@ fn thread(first: u8, l: RuleList) -> Thread
 
 // The head: the map, and the fields that it names, in bit order.
 fn read_head(s: &[u8]) -> HeadPart
-    ensures { λ r. ⌜ ReadsHead (now (s .entry)) r (head (now (s .entry))) ⌝ }
+    ensures { λ r. ⌜ Reads (now (s .entry)) (headPartOf r) (parseHead (now (s .entry))) ⌝ }
 {
     let first = match byte_at(s, 0) {
         Part::Read(x) => x,
@@ -125,7 +106,7 @@ fn read_head(s: &[u8]) -> HeadPart
 // The head after G and K: the two states, and the first symbols.
 fn read_head_rest(s: &[u8], at: usize, map: u8, g: u8, k: u8) -> HeadPart
     requires { ⌜ at ≤ length (now s) ⌝ }
-    ensures { λ r. ⌜ ReadsHead (now (s .entry)) r (headRest map g k (drop at (now (s .entry)))) ⌝ }
+    ensures { λ r. ⌜ Reads (now (s .entry)) (headPartOf r) (parseHeadRest map g k (drop at (now (s .entry)))) ⌝ }
 {
     let start = match field(s, at, map / 4 % 2 == 1, 3, 0, g, 0) {
         Part::Read(x) => x,

@@ -1,11 +1,11 @@
 // The readers of rules: a thread's list, one rule, its new symbols.
 use crate::Part;
-use crate::Place;
 use crate::RightAt;
 use crate::RightPart;
 use crate::RuleAt;
 use crate::RuleList;
 use crate::RulePart;
+use crate::Taken;
 use crate::field::byte_at;
 use crate::field::field;
 use crate::field::ranged;
@@ -17,12 +17,12 @@ use model::ZERO_RULE;
 ghost use mathlib.Core.Path.{_≡_};
 ghost use Prim.Native.Nat.{_≤_};
 ghost use lib.ListN.{length, drop};
-ghost use Rattle.record.specs.Held.{ReadsRight, ReadsRule, ReadsList, Padded};
-ghost use Rattle.record.specs.Reader.{right, rule, ruleMap, rules};
+ghost use Rattle.record.specs.Held.{Reads, rightPartOf, rulePartOf, listOf, Padded};
+ghost use Rattle.record.specs.Reader.{parseRight, parseRule, ruleMap, parseRules};
 
 // The rules of a thread, from the place of their count; no byte is taken where they are absent.
 pub fn read_rules(s: &[u8], present: bool, g: u8) -> RuleList
-    ensures read { λ r. ⌜ ReadsList (now (s .entry)) r (rules present g (now (s .entry))) ⌝ }
+    ensures read { λ r. ⌜ Reads (now (s .entry)) (listOf r) (parseRules present g (now (s .entry))) ⌝ }
     ensures padded { λ r. ⌜ Padded (r .count) (r .rules) ⌝ }
 {
     let mut rules = [ZERO_RULE; 64];
@@ -30,7 +30,7 @@ pub fn read_rules(s: &[u8], present: bool, g: u8) -> RuleList
     let counted = match field(s, 0, present, 4, 0, 65, 0) {
         Part::Read(x) => x,
         Part::Refused(m) => return RuleList {
-            answer: Place::Refused(m),
+            answer: Taken::Refused(m),
             count: i,
             rules,
         },
@@ -41,7 +41,7 @@ pub fn read_rules(s: &[u8], present: bool, g: u8) -> RuleList
         let next = match read_rule(s, at, g) {
             RulePart::Read(x) => x,
             RulePart::Refused(m) => return RuleList {
-                answer: Place::Refused(m),
+                answer: Taken::Refused(m),
                 count: i,
                 rules,
             },
@@ -52,7 +52,7 @@ pub fn read_rules(s: &[u8], present: bool, g: u8) -> RuleList
         i += 1;
     }
     RuleList {
-        answer: Place::At(at),
+        answer: Taken::At(at),
         count: i,
         rules,
     }
@@ -60,7 +60,7 @@ pub fn read_rules(s: &[u8], present: bool, g: u8) -> RuleList
 
 // A rule. Its after state is absent where it is the before state.
 fn read_rule(s: &[u8], at: usize, g: u8) -> RulePart
-    ensures { λ r. ⌜ ReadsRule (now (s .entry)) r (rule g (drop at (now (s .entry)))) ⌝ }
+    ensures { λ r. ⌜ Reads (now (s .entry)) (rulePartOf r) (parseRule g (drop at (now (s .entry)))) ⌝ }
 {
     let map = match byte_at(s, at) {
         Part::Read(x) => x,
@@ -111,7 +111,7 @@ fn map_fits(map: u8) -> bool
 // The new symbols of a rule: none, one or two.
 fn read_right(s: &[u8], at: usize, first: bool, second: bool) -> RightPart
     requires { ⌜ at ≤ length (now s) ⌝ }
-    ensures { λ r. ⌜ ReadsRight (now (s .entry)) r (right first second (drop at (now (s .entry)))) ⌝ }
+    ensures { λ r. ⌜ Reads (now (s .entry)) (rightPartOf r) (parseRight first second (drop at (now (s .entry)))) ⌝ }
 {
     if !first {
         return RightPart::Read(RightAt {

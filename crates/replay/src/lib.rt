@@ -2,7 +2,7 @@
 ghost use mathlib.Core.Path.{_≡_};
 ghost use Prim.Native.Nat.{_+_, _/_, _<_, _≤_};
 ghost use lib.ListN.{length};
-ghost use Rattle.model.specs.Rules.{put as putOf};
+ghost use Rattle.model.specs.Rules.{put};
 ghost use Rattle.model.specs.Schedules.{stepsOf};
 ghost use Rattle.model.specs.Walk.{stepFrom, walk};
 ghost use Rattle.replay.specs.Replay.{replayOf};
@@ -157,14 +157,14 @@ fn fire(t: Thread, rule: u8, shared: u8, depth: usize, stack: &mut [u8]) -> Fire
         return Fired::Stuck;
     }
     let right = chosen.right;
-    let n = put(right, below, stack);
+    let n = place_right(right, below, stack);
     Fired::Done(chosen.after.0, n)
 }
 
 // A rule's right side in place of the top that is gone; answers how many symbols the stack then holds.
-fn put(x: Right, depth: usize, stack: &mut [u8]) -> usize
+fn place_right(x: Right, depth: usize, stack: &mut [u8]) -> usize
     requires { ⌜ depth + 1 < length (now stack) ⌝ }
-    ensures by { λ r. ⌜ topFirst r (now (stack .exit)) ≡ putOf x (topFirst depth (now (stack .entry))) ⌝ }
+    ensures by { λ r. ⌜ topFirst r (now (stack .exit)) ≡ put x (topFirst depth (now (stack .entry))) ⌝ }
     ensures grows { λ r. ⌜ r ≤ depth + 2 ⌝ }
 {
     match x {

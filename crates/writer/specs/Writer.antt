@@ -15,8 +15,8 @@ unfoldable pub fieldOf : ℕ → ℕ → List ℕ
 fieldOf default v = cond (eqb v default) [] (v ∷ [])
 
 -- What a field's bit i adds to the map: nothing where the field is absent.
-unfoldable pub weight : ℕ → ℕ → ℕ → ℕ
-weight i default v = cond (eqb v default) 0 (2 ^ i)
+unfoldable pub weightOf : ℕ → ℕ → ℕ → ℕ
+weightOf i default v = cond (eqb v default) 0 (2 ^ i)
 
 -- The new symbols of a rule, and their bits.
 abbrev pub symbolsOf : Right → List ℕ
@@ -33,7 +33,7 @@ symbolBits (Push a b) = 6
 -- A rule: map, before state and symbol in one byte, the after state unless it is the before state, the new symbols.
 unfoldable pub ruleOf : Rule → List ℕ
 ruleOf r =
-    (weight 0 (r .before .0) (r .after .0) + symbolBits (r .right)) ∷ (r .before .0 * 16 + r .symbol .0) ∷
+    (weightOf 0 (r .before .0) (r .after .0) + symbolBits (r .right)) ∷ (r .before .0 * 16 + r .symbol .0) ∷
     fieldOf (r .before .0) (r .after .0) ++ symbolsOf (r .right)
 
 -- Rules one after another.
@@ -48,8 +48,8 @@ rulesOf t = fieldOf 0 (t .count) ++ ruleListOf (take (t .count) (t .rules))
 -- The map of a model: bit 3 always stands.
 unfoldable pub mapOf : Model → ℕ
 mapOf m =
-    weight 0 4 (m .g) + weight 1 2 (m .k) + weight 2 0 (m .start .0) + 8 + weight 4 0 (m .a .first .0) +
-    weight 5 0 (m .b .first .0) + weight 6 0 (m .a .count) + weight 7 0 (m .b .count)
+    weightOf 0 4 (m .g) + weightOf 1 2 (m .k) + weightOf 2 0 (m .start .0) + 8 + weightOf 4 0 (m .a .first .0) +
+    weightOf 5 0 (m .b .first .0) + weightOf 6 0 (m .a .count) + weightOf 7 0 (m .b .count)
 
 -- The map and the head fields.
 unfoldable pub headBytes : Model → List ℕ

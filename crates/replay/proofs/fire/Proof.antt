@@ -1,4 +1,4 @@
--- `fire` meets its contract: each test of the code decides one of the definition, and `put` leaves the stack.
+-- `fire` meets its contract: each test of the code decides one of the definition, and `place_right` leaves the stack.
 use native.Mathlib.Omega.{arith}
 use borrow.Author.Needs.{needs}
 use Rattle.replay.proofs.Moves.{empty, unlisted, other-state, other-top, moves}
@@ -29,8 +29,8 @@ slice-read-if4 c = search needs
 returns-4 : tie.Need-returns-4
 returns-4 c = (other-top _ _ _ _ _ _ (omega arith) (omega arith) (omega arith) (c .if4 .taken), search needs)
 
-put-requires : tie.Need-put-requires
-put-requires c κs = search needs
+place-right-requires : tie.Need-place-right-requires
+place-right-requires c κs = search needs
 
 same-length : tie.Need-same-length
 same-length c = search needs
@@ -38,7 +38,7 @@ same-length c = search needs
 returns-5 : tie.Need-returns-5
 returns-5 c =
     let d = c .before .before in
-    (moves _ _ _ _ _ _ (omega arith) (omega arith) (omega arith) (d .before .before .if4 .left) (d .put .ensures .0), omega arith)
+    (moves _ _ _ _ _ _ (omega arith) (omega arith) (omega arith) (d .before .before .if4 .left) (d .place-right .ensures .0), omega arith)
 
 pub fire-spec : {M : Type 1} → statement M
 fire-spec =
@@ -52,6 +52,6 @@ fire-spec =
     sub-below
     slice-read-if4
     returns-4
-    put-requires
+    place-right-requires
     same-length
     returns-5)

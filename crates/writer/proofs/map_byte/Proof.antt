@@ -1,6 +1,6 @@
 -- `map_byte` meets its contract: each call has one field's weight, and the eight add up to 255 at most.
 use borrow.Author.Needs.{needs}
-use Rattle.writer.specs.Writer.{mapOf, weight}
+use Rattle.writer.specs.Writer.{mapOf, weightOf}
 use Rattle.writer.proofs.map_byte.Statement.{statement}
 use Rattle.writer.proofs.map_byte.Tie as tie
 
@@ -53,7 +53,7 @@ add-result-7 : tie.Need-add-result-7
 add-result-7 c = search needs
 
 returns : tie.Need-returns
-unfolding mapOf weight
+unfolding mapOf weightOf
 returns c = cc
 
 pub map-byte-spec : {M : Type 1} → statement M

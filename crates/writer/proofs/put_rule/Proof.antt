@@ -2,7 +2,7 @@
 use borrow.Author.Needs.{needs}
 use native.Mathlib.Omega.{arith}
 use lib.ListN.{length-append}
-use Rattle.writer.specs.Writer.{ruleOf, weight}
+use Rattle.writer.specs.Writer.{ruleOf, weightOf}
 use Rattle.writer.proofs.Puts.{_then_}
 use Rattle.writer.proofs.put_rule.Statement.{statement}
 use Rattle.writer.proofs.put_rule.Tie as tie
@@ -55,7 +55,7 @@ same-length : tie.Need-same-length
 same-length c = search needs
 
 returns : tie.Need-returns
-unfolding ruleOf weight
+unfolding ruleOf weightOf
 returns c =
     let symbols = c .before .before in
     let field = symbols .before .before .before .before in

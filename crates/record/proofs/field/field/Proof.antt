@@ -1,13 +1,14 @@
 -- `field` meets its contract: the default where it is absent, else the byte and the test for 5.
 use borrow.Author.Tests.{not-true, not-false, eq-eqb, ne-eqb}
-use Rattle.record.specs.Reader.{field}
+use Rattle.record.specs.Reader.{parseField}
+use Rattle.record.specs.Held.{partOf}
 use Rattle.record.proofs.Parts.{got, ends, refuses}
 use borrow.Author.Needs.{needs}
 use Rattle.record.proofs.field.field.Statement.{statement}
 use Rattle.record.proofs.field.field.Tie as tie
 
 returns : tie.Need-returns
-unfolding field
+unfolding parseField
 returns c =
     let start = c .before .before in
     record { same = rw (not-true (start .args .present) (c .if1 .taken)); within = start .pre }
@@ -22,27 +23,27 @@ enum-known-n : tie.Need-enum-known-n
 enum-known-n c = search needs
 
 returns-2 : tie.Need-returns-2
-unfolding field
+unfolding parseField
 returns-2 c =
     refuses
     (rw (
       not-false (c .before .before .before .before .before .before .args .present) (c .before .before .before .before .if1 .left),
-      got (c .before .before .before .ranged .ensures) (c .before .n .given .1),
+      got partOf (c .before .before .before .ranged .ensures) (c .before .n .given .1),
     ))
 
 returns-3 : tie.Need-returns-3
-unfolding field
+unfolding parseField
 returns-3 c =
     let start = c .before .before .before .before .before .before .before .before in
     refuses
     (rw (
       not-false (start .args .present) (c .before .before .before .before .before .before .if1 .left),
-      got (c .before .before .before .before .before .ranged .ensures) (c .before .before .before .x .given .1),
+      got partOf (c .before .before .before .before .before .ranged .ensures) (c .before .before .before .x .given .1),
       eq-eqb _ _ (c .if2 .taken),
     ))
 
 returns-4 : tie.Need-returns-4
-unfolding field
+unfolding parseField
 returns-4 c =
     let start = c .before .before .before .before .before .before .before .before in
     let r = c .before .before .before .before .before .ranged .ensures in
@@ -51,10 +52,10 @@ returns-4 c =
       same =
           rw (
             not-false (start .args .present) (c .before .before .before .before .before .before .if1 .left),
-            got r e,
+            got partOf r e,
             ne-eqb _ _ (c .if2 .left),
           );
-      within = ends r e;
+      within = ends partOf r e;
     }
 
 pub field-spec : {M : Type 1} → statement M

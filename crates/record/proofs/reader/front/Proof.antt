@@ -3,7 +3,9 @@ use Prim.Native.Nat.{_+_, _≤_}
 use native.Mathlib.Omega.{arith}
 use lib.ListN.{length}
 use lib.Seq.{drop-drop}
-use Rattle.record.specs.Reader.{front}
+use Rattle.record.specs.Reader.{parseFront}
+use Rattle.record.specs.Held.{headPartOf}
+use Rattle.record.proofs.Parts.{got, ends}
 use Rattle.record.proofs.Fronts.{refused-front, read-front, list-got, list-ends}
 use borrow.Author.Needs.{needs}
 use Rattle.record.proofs.reader.front.Statement.{statement}
@@ -12,31 +14,31 @@ use Rattle.record.proofs.reader.front.Tie as tie
 -- Where the head ends, ..
 head-end : (c : tie.After-known-told)
     → c .before .x .given .0 .0 .at ≤ length (c .before .before .before .before .before .args .bytes .now)
-head-end c = rw (c .before .x .given .1) at (c .before .before .before .read-head .ensures .within)
+head-end c = ends headPartOf (c .before .before .before .read-head .ensures) (c .before .x .given .1)
 
 -- .. A's rules, ..
 a-end : (c : tie.After-known-told3)
     → let h = c .before .before .before .before .before .before in
     let s = h .before .before .before .before .before .args .bytes .now in
-    h .before .x .given .0 .0 .at + c .before .place-a .given .0 .0 ≤ length s
+    h .before .x .given .0 .0 .at + c .before .answer-a .given .0 .0 ≤ length s
 a-end c =
     let h = c .before .before .before .before .before .before in
     let a = c .before .before .before .read-rules in
     let s = h .before .before .before .before .before .args .bytes .now in
-    list-ends s _ (head-end h) (a .result) _ _ (a .ensures .0) (c .before .place-a .given .1)
+    list-ends s _ (head-end h) (a .result) _ _ (a .ensures .0) (c .before .answer-a .given .1)
 
 -- .. and B's.
 b-end : (c : tie.After-known-told5)
     → let la = c .before .before .before .before .before .before in
     let h = la .before .before .before .before .before .before in
     let s = h .before .before .before .before .before .args .bytes .now in
-    h .before .x .given .0 .0 .at + la .before .place-a .given .0 .0 + c .before .place-b .given .0 .0 ≤ length s
+    h .before .x .given .0 .0 .at + la .before .answer-a .given .0 .0 + c .before .answer-b .given .0 .0 ≤ length s
 b-end c =
     let la = c .before .before .before .before .before .before in
     let b = c .before .before .before .read-rules2 in
     let h = la .before .before .before .before .before .before in
     let s = h .before .before .before .before .before .args .bytes .now in
-    list-ends s _ (a-end la) (b .result) _ _ (b .ensures .0) (c .before .place-b .given .1)
+    list-ends s _ (a-end la) (b .result) _ _ (b .ensures .0) (c .before .answer-b .given .1)
 
 read-head-requires : tie.Need-read-head-requires
 read-head-requires c κs = search needs
@@ -51,11 +53,11 @@ refusal-requires : tie.Need-refusal-requires
 refusal-requires c κs = search needs
 
 returns : tie.Need-returns
-unfolding front
+unfolding parseFront
 returns c =
     let h = c .before in
     refused-front (c .refusal .ensures)
-    (rw (← h .before .before .before .read-head .ensures .same, h .before .n .given .1))
+    (rw (got headPartOf (h .before .before .before .read-head .ensures) (h .before .n .given .1)))
 
 sub-read-rules : tie.Need-sub-read-rules
 sub-read-rules c = head-end c
@@ -69,17 +71,17 @@ part-read-rules-end c = search needs
 read-rules-requires : tie.Need-read-rules-requires
 read-rules-requires c κs = search needs
 
-enum-known-place-a : tie.Need-enum-known-place-a
-enum-known-place-a c = search needs
+enum-known-answer-a : tie.Need-enum-known-answer-a
+enum-known-answer-a c = search needs
 
-enum-known-place-a-2 : tie.Need-enum-known-place-a-2
-enum-known-place-a-2 c = search needs
+enum-known-answer-a-2 : tie.Need-enum-known-answer-a-2
+enum-known-answer-a-2 c = search needs
 
 refusal-requires-2 : tie.Need-refusal-requires-2
 refusal-requires-2 c κs = search needs
 
 returns-2 : tie.Need-returns-2
-unfolding front
+unfolding parseFront
 returns-2 c =
     let la = c .before in
     let h = la .before .before .before .before .before .before in
@@ -87,9 +89,8 @@ returns-2 c =
     let s = h .before .before .before .before .before .args .bytes .now in
     refused-front (c .refusal2 .ensures)
     (rw (
-      ← h .before .before .before .read-head .ensures .same,
-      h .before .x .given .1,
-      list-got s _ (head-end h) (a .result) _ _ (a .ensures .0) (la .before .place-a2 .given .1),
+      got headPartOf (h .before .before .before .read-head .ensures) (h .before .x .given .1),
+      list-got s _ (head-end h) (a .result) _ _ (a .ensures .0) (la .before .answer-a2 .given .1),
     ))
 
 add-from : tie.Need-add-from
@@ -107,17 +108,17 @@ part-read-rules-end-2 c = search needs
 read-rules-requires-2 : tie.Need-read-rules-requires-2
 read-rules-requires-2 c κs = search needs
 
-enum-known-place-b : tie.Need-enum-known-place-b
-enum-known-place-b c = search needs
+enum-known-answer-b : tie.Need-enum-known-answer-b
+enum-known-answer-b c = search needs
 
-enum-known-place-b-2 : tie.Need-enum-known-place-b-2
-enum-known-place-b-2 c = search needs
+enum-known-answer-b-2 : tie.Need-enum-known-answer-b-2
+enum-known-answer-b-2 c = search needs
 
 refusal-requires-3 : tie.Need-refusal-requires-3
 refusal-requires-3 c κs = search needs
 
 returns-3 : tie.Need-returns-3
-unfolding front
+unfolding parseFront
 returns-3 c =
     let lb = c .before in
     let b = lb .before .before .before .read-rules2 in
@@ -127,11 +128,10 @@ returns-3 c =
     let s = h .before .before .before .before .before .args .bytes .now in
     refused-front (c .refusal3 .ensures)
     (rw (
-      ← h .before .before .before .read-head .ensures .same,
-      h .before .x .given .1,
-      list-got s _ (head-end h) (a .result) _ _ (a .ensures .0) (la .before .place-a .given .1),
+      got headPartOf (h .before .before .before .read-head .ensures) (h .before .x .given .1),
+      list-got s _ (head-end h) (a .result) _ _ (a .ensures .0) (la .before .answer-a .given .1),
       drop-drop,
-      list-got s _ (a-end la) (b .result) _ _ (b .ensures .0) (lb .before .place-b2 .given .1),
+      list-got s _ (a-end la) (b .result) _ _ (b .ensures .0) (lb .before .answer-b2 .given .1),
     ))
 
 thread-requires : tie.Need-thread-requires
@@ -149,7 +149,7 @@ add-t21 c =
     omega (arith, b-end lb, start .good)
 
 returns-4 : tie.Need-returns-4
-unfolding front
+unfolding parseFront
 returns-4 c =
     let lb = c .before .before in
     let b = lb .before .before .before .read-rules2 in
@@ -161,11 +161,10 @@ returns-4 c =
     (rw (
       c .before .thread .ensures,
       c .thread2 .ensures,
-      ← h .before .before .before .read-head .ensures .same,
-      h .before .x .given .1,
-      list-got s _ (head-end h) (a .result) _ _ (a .ensures .0) (la .before .place-a .given .1),
+      got headPartOf (h .before .before .before .read-head .ensures) (h .before .x .given .1),
+      list-got s _ (head-end h) (a .result) _ _ (a .ensures .0) (la .before .answer-a .given .1),
       drop-drop,
-      list-got s _ (a-end la) (b .result) _ _ (b .ensures .0) (lb .before .place-b .given .1),
+      list-got s _ (a-end la) (b .result) _ _ (b .ensures .0) (lb .before .answer-b .given .1),
       drop-drop,
     ))
 
@@ -182,8 +181,8 @@ front-spec =
     part-read-rules-start
     part-read-rules-end
     read-rules-requires
-    enum-known-place-a
-    enum-known-place-a-2
+    enum-known-answer-a
+    enum-known-answer-a-2
     refusal-requires-2
     returns-2
     add-from
@@ -191,8 +190,8 @@ front-spec =
     part-read-rules-start-2
     part-read-rules-end-2
     read-rules-requires-2
-    enum-known-place-b
-    enum-known-place-b-2
+    enum-known-answer-b
+    enum-known-answer-b-2
     refusal-requires-3
     returns-3
     thread-requires

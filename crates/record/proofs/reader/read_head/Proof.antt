@@ -2,7 +2,8 @@
 -- head is what comes after.
 use native.Mathlib.Nat.{div-one}
 use borrow.Author.Tests.{eq-eqb, ne-eqb}
-use Rattle.record.specs.Reader.{head}
+use Rattle.record.specs.Reader.{parseHead}
+use Rattle.record.specs.Held.{partOf}
 use Rattle.record.proofs.Parts.{got, ends, refuses}
 use borrow.Author.Needs.{needs}
 use Rattle.record.proofs.reader.read_head.Statement.{statement}
@@ -18,20 +19,20 @@ enum-known-n : tie.Need-enum-known-n
 enum-known-n c = search needs
 
 returns : tie.Need-returns
-unfolding head
-returns c = refuses (rw (got (c .before .before .before .byte-at .ensures) (c .before .n .given .1)))
+unfolding parseHead
+returns c = refuses (rw (got partOf (c .before .before .before .byte-at .ensures) (c .before .n .given .1)))
 
 returns-2 : tie.Need-returns-2
-unfolding head
+unfolding parseHead
 returns-2 c =
     refuses
     (rw (
-      got (c .before .before .before .before .byte-at .ensures) (c .before .before .x .given .1),
+      got partOf (c .before .before .before .before .byte-at .ensures) (c .before .before .x .given .1),
       ne-eqb _ _ (c .if1 .taken),
     ))
 
 field-requires : tie.Need-field-requires
-field-requires c κs = ends (c .before .before .before .before .byte-at .ensures) (c .before .before .x .given .1)
+field-requires c κs = ends partOf (c .before .before .before .before .byte-at .ensures) (c .before .before .x .given .1)
 
 enum-known-x-2 : tie.Need-enum-known-x-2
 enum-known-x-2 c = search needs
@@ -40,19 +41,19 @@ enum-known-n-2 : tie.Need-enum-known-n-2
 enum-known-n-2 c = search needs
 
 returns-3 : tie.Need-returns-3
-unfolding head
+unfolding parseHead
 returns-3 c =
     let map = c .before .before .before .before .before in
     refuses
     (rw (
-      got (map .before .before .before .byte-at .ensures) (map .before .x .given .1),
+      got partOf (map .before .before .before .byte-at .ensures) (map .before .x .given .1),
       eq-eqb _ _ (c .before .before .before .before .if1 .left),
       div-one,
-      got (c .before .before .before .field .ensures) (c .before .n2 .given .1),
+      got partOf (c .before .before .before .field .ensures) (c .before .n2 .given .1),
     ))
 
 field-requires-2 : tie.Need-field-requires-2
-field-requires-2 c κs = ends (c .before .before .before .field .ensures) (c .before .x2 .given .1)
+field-requires-2 c κs = ends partOf (c .before .before .before .field .ensures) (c .before .x2 .given .1)
 
 enum-known-x-3 : tie.Need-enum-known-x-3
 enum-known-x-3 c = search needs
@@ -61,24 +62,24 @@ enum-known-n-3 : tie.Need-enum-known-n-3
 enum-known-n-3 c = search needs
 
 returns-4 : tie.Need-returns-4
-unfolding head
+unfolding parseHead
 returns-4 c =
     let g = c .before .before .before .before in
     let map = g .before .before .before .before .before in
     refuses
     (rw (
-      got (map .before .before .before .byte-at .ensures) (map .before .x .given .1),
+      got partOf (map .before .before .before .byte-at .ensures) (map .before .x .given .1),
       eq-eqb _ _ (g .before .before .before .before .if1 .left),
       div-one,
-      got (g .before .before .before .field .ensures) (g .before .x2 .given .1),
-      got (c .before .before .before .field2 .ensures) (c .before .n3 .given .1),
+      got partOf (g .before .before .before .field .ensures) (g .before .x2 .given .1),
+      got partOf (c .before .before .before .field2 .ensures) (c .before .n3 .given .1),
     ))
 
 read-head-rest-requires : tie.Need-read-head-rest-requires
-read-head-rest-requires c κs = ends (c .before .before .before .field2 .ensures) (c .before .x3 .given .1)
+read-head-rest-requires c κs = ends partOf (c .before .before .before .field2 .ensures) (c .before .x3 .given .1)
 
 returns-5 : tie.Need-returns-5
-unfolding head
+unfolding parseHead
 returns-5 c =
     let k = c .before in
     let g = k .before .before .before .before in
@@ -88,11 +89,11 @@ returns-5 c =
       same =
           rw (
             r .same,
-            got (map .before .before .before .byte-at .ensures) (map .before .x .given .1),
+            got partOf (map .before .before .before .byte-at .ensures) (map .before .x .given .1),
             eq-eqb _ _ (g .before .before .before .before .if1 .left),
             div-one,
-            got (g .before .before .before .field .ensures) (g .before .x2 .given .1),
-            got (k .before .before .before .field2 .ensures) (k .before .x3 .given .1),
+            got partOf (g .before .before .before .field .ensures) (g .before .x2 .given .1),
+            got partOf (k .before .before .before .field2 .ensures) (k .before .x3 .given .1),
           );
       within = r .within;
     }

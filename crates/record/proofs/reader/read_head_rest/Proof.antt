@@ -1,4 +1,5 @@
 -- `read_head_rest` meets its contract: each field that was read is put in for what was wanted of it, in order.
+use Rattle.record.specs.Held.{partOf}
 use Rattle.record.proofs.Parts.{got, ends, refuses}
 use borrow.Author.Needs.{needs}
 use Rattle.record.proofs.reader.read_head_rest.Statement.{statement}
@@ -14,7 +15,7 @@ enum-known-n : tie.Need-enum-known-n
 enum-known-n c = search needs
 
 returns : tie.Need-returns
-returns c = refuses (rw (got (c .before .before .before .field .ensures) (c .before .n .given .1)))
+returns c = refuses (rw (got partOf (c .before .before .before .field .ensures) (c .before .n .given .1)))
 
 ranged-requires : tie.Need-ranged-requires
 ranged-requires c κs = search needs
@@ -30,12 +31,12 @@ returns-2 c =
     let start = c .before .before .before .before in
     refuses
     (rw (
-      got (start .before .before .before .field .ensures) (start .before .x .given .1),
-      got (c .before .before .before .ranged .ensures) (c .before .n2 .given .1),
+      got partOf (start .before .before .before .field .ensures) (start .before .x .given .1),
+      got partOf (c .before .before .before .ranged .ensures) (c .before .n2 .given .1),
     ))
 
 field-requires-2 : tie.Need-field-requires-2
-field-requires-2 c κs = ends (c .before .before .before .ranged .ensures) (c .before .x2 .given .1)
+field-requires-2 c κs = ends partOf (c .before .before .before .ranged .ensures) (c .before .x2 .given .1)
 
 enum-known-x-3 : tie.Need-enum-known-x-3
 enum-known-x-3 c = search needs
@@ -49,13 +50,13 @@ returns-3 c =
     let start = target .before .before .before .before in
     refuses
     (rw (
-      got (start .before .before .before .field .ensures) (start .before .x .given .1),
-      got (target .before .before .before .ranged .ensures) (target .before .x2 .given .1),
-      got (c .before .before .before .field2 .ensures) (c .before .n3 .given .1),
+      got partOf (start .before .before .before .field .ensures) (start .before .x .given .1),
+      got partOf (target .before .before .before .ranged .ensures) (target .before .x2 .given .1),
+      got partOf (c .before .before .before .field2 .ensures) (c .before .n3 .given .1),
     ))
 
 field-requires-3 : tie.Need-field-requires-3
-field-requires-3 c κs = ends (c .before .before .before .field2 .ensures) (c .before .x3 .given .1)
+field-requires-3 c κs = ends partOf (c .before .before .before .field2 .ensures) (c .before .x3 .given .1)
 
 enum-known-x-4 : tie.Need-enum-known-x-4
 enum-known-x-4 c = search needs
@@ -70,10 +71,10 @@ returns-4 c =
     let start = target .before .before .before .before in
     refuses
     (rw (
-      got (start .before .before .before .field .ensures) (start .before .x .given .1),
-      got (target .before .before .before .ranged .ensures) (target .before .x2 .given .1),
-      got (a .before .before .before .field2 .ensures) (a .before .x3 .given .1),
-      got (c .before .before .before .field3 .ensures) (c .before .n4 .given .1),
+      got partOf (start .before .before .before .field .ensures) (start .before .x .given .1),
+      got partOf (target .before .before .before .ranged .ensures) (target .before .x2 .given .1),
+      got partOf (a .before .before .before .field2 .ensures) (a .before .x3 .given .1),
+      got partOf (c .before .before .before .field3 .ensures) (c .before .n4 .given .1),
     ))
 
 returns-5 : tie.Need-returns-5
@@ -86,12 +87,12 @@ returns-5 c =
     record {
       same =
           rw (
-            got (start .before .before .before .field .ensures) (start .before .x .given .1),
-            got (target .before .before .before .ranged .ensures) (target .before .x2 .given .1),
-            got (a .before .before .before .field2 .ensures) (a .before .x3 .given .1),
-            got r e,
+            got partOf (start .before .before .before .field .ensures) (start .before .x .given .1),
+            got partOf (target .before .before .before .ranged .ensures) (target .before .x2 .given .1),
+            got partOf (a .before .before .before .field2 .ensures) (a .before .x3 .given .1),
+            got partOf r e,
           );
-      within = ends r e;
+      within = ends partOf r e;
     }
 
 pub read-head-rest-spec : {M : Type 1} → statement M

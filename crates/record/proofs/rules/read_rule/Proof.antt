@@ -4,7 +4,8 @@ use mathlib.Core.Bool.{true}
 use mathlib.Core.Path.{_≡_, sym, _∙_}
 use native.Mathlib.Nat.{div-one}
 use borrow.Author.Tests.{not-true, not-false, le-ltb, lt-ltb}
-use Rattle.record.specs.Reader.{rule, ruleMap}
+use Rattle.record.specs.Reader.{parseRule, ruleMap}
+use Rattle.record.specs.Held.{partOf, rightPartOf}
 use Rattle.record.proofs.Parts.{got, ends, refuses}
 use borrow.Author.Needs.{needs}
 use Rattle.record.proofs.rules.read_rule.Statement.{statement}
@@ -24,19 +25,19 @@ enum-known-n : tie.Need-enum-known-n
 enum-known-n c = search needs
 
 returns : tie.Need-returns
-unfolding rule
-returns c = refuses (rw (got (c .before .before .before .byte-at .ensures) (c .before .n .given .1)))
+unfolding parseRule
+returns c = refuses (rw (got partOf (c .before .before .before .byte-at .ensures) (c .before .n .given .1)))
 
 map-fits-requires : tie.Need-map-fits-requires
 map-fits-requires c κs = search needs
 
 returns-2 : tie.Need-returns-2
-unfolding rule
+unfolding parseRule
 returns-2 c =
     let map = c .before .before in
     refuses
     (rw (
-      got (map .before .before .before .byte-at .ensures) (map .before .x .given .1),
+      got partOf (map .before .before .before .byte-at .ensures) (map .before .x .given .1),
       ← c .before .map-fits .ensures,
       not-true (c .before .map-fits .result) (c .if1 .taken),
     ))
@@ -51,33 +52,33 @@ enum-known-n-2 : tie.Need-enum-known-n-2
 enum-known-n-2 c = search needs
 
 returns-3 : tie.Need-returns-3
-unfolding rule
+unfolding parseRule
 returns-3 c =
     let map = c .before .before .before .before .before .before in
     refuses
     (rw (
-      got (map .before .before .before .byte-at .ensures) (map .before .x .given .1),
+      got partOf (map .before .before .before .byte-at .ensures) (map .before .x .given .1),
       fits (c .before .before .before .before),
-      got (c .before .before .before .byte-at2 .ensures) (c .before .n2 .given .1),
+      got partOf (c .before .before .before .byte-at2 .ensures) (c .before .n2 .given .1),
     ))
 
 returns-4 : tie.Need-returns-4
-unfolding rule
+unfolding parseRule
 returns-4 c =
     let pair = c .before .before in
     let map = pair .before .before .before .before .before .before in
     refuses
     (rw (
-      got (map .before .before .before .byte-at .ensures) (map .before .x .given .1),
+      got partOf (map .before .before .before .byte-at .ensures) (map .before .x .given .1),
       fits (pair .before .before .before .before),
-      got (pair .before .before .before .byte-at2 .ensures) (pair .before .x2 .given .1),
+      got partOf (pair .before .before .before .byte-at2 .ensures) (pair .before .x2 .given .1),
       le-ltb _ _ (c .if2 .taken),
     ))
 
 field-requires : tie.Need-field-requires
 field-requires c κs =
     let pair = c .before .before .before in
-    ends (pair .before .before .before .byte-at2 .ensures) (pair .before .x2 .given .1)
+    ends partOf (pair .before .before .before .byte-at2 .ensures) (pair .before .x2 .given .1)
 
 enum-known-x-3 : tie.Need-enum-known-x-3
 enum-known-x-3 c = search needs
@@ -86,24 +87,24 @@ enum-known-n-3 : tie.Need-enum-known-n-3
 enum-known-n-3 c = search needs
 
 returns-5 : tie.Need-returns-5
-unfolding rule
+unfolding parseRule
 returns-5 c =
     let pair = c .before .before .before .before .before .before .before in
     let map = pair .before .before .before .before .before .before in
     refuses
     (rw (
-      got (map .before .before .before .byte-at .ensures) (map .before .x .given .1),
+      got partOf (map .before .before .before .byte-at .ensures) (map .before .x .given .1),
       fits (pair .before .before .before .before),
-      got (pair .before .before .before .byte-at2 .ensures) (pair .before .x2 .given .1),
+      got partOf (pair .before .before .before .byte-at2 .ensures) (pair .before .x2 .given .1),
       lt-ltb _ _ (c .before .before .before .before .before .if2 .left),
       div-one,
-      got (c .before .before .before .field .ensures) (c .before .n3 .given .1),
+      got partOf (c .before .before .before .field .ensures) (c .before .n3 .given .1),
     ))
 
 read-right-requires : tie.Need-read-right-requires
 read-right-requires c κs =
     let next = c .before .before in
-    ends (next .before .before .before .field .ensures) (next .before .x3 .given .1)
+    ends partOf (next .before .before .before .field .ensures) (next .before .x3 .given .1)
 
 enum-known-x-4 : tie.Need-enum-known-x-4
 enum-known-x-4 c = search needs
@@ -112,25 +113,24 @@ enum-known-n-4 : tie.Need-enum-known-n-4
 enum-known-n-4 c = search needs
 
 returns-6 : tie.Need-returns-6
-unfolding rule
+unfolding parseRule
 returns-6 c =
     let next = c .before .before .before .before .before .before in
     let pair = next .before .before .before .before .before .before .before in
     let map = pair .before .before .before .before .before .before in
     refuses
     (rw (
-      got (map .before .before .before .byte-at .ensures) (map .before .x .given .1),
+      got partOf (map .before .before .before .byte-at .ensures) (map .before .x .given .1),
       fits (pair .before .before .before .before),
-      got (pair .before .before .before .byte-at2 .ensures) (pair .before .x2 .given .1),
+      got partOf (pair .before .before .before .byte-at2 .ensures) (pair .before .x2 .given .1),
       lt-ltb _ _ (next .before .before .before .before .before .if2 .left),
       div-one,
-      got (next .before .before .before .field .ensures) (next .before .x3 .given .1),
-      ← c .before .before .before .read-right .ensures .same,
-      c .before .n4 .given .1,
+      got partOf (next .before .before .before .field .ensures) (next .before .x3 .given .1),
+      got rightPartOf (c .before .before .before .read-right .ensures) (c .before .n4 .given .1),
     ))
 
 returns-7 : tie.Need-returns-7
-unfolding rule
+unfolding parseRule
 returns-7 c =
     let next = c .before .before .before .before .before .before .before in
     let pair = next .before .before .before .before .before .before .before in
@@ -140,16 +140,15 @@ returns-7 c =
     record {
       same =
           rw (
-            got (map .before .before .before .byte-at .ensures) (map .before .x .given .1),
+            got partOf (map .before .before .before .byte-at .ensures) (map .before .x .given .1),
             fits (pair .before .before .before .before),
-            got (pair .before .before .before .byte-at2 .ensures) (pair .before .x2 .given .1),
+            got partOf (pair .before .before .before .byte-at2 .ensures) (pair .before .x2 .given .1),
             lt-ltb _ _ (next .before .before .before .before .before .if2 .left),
             div-one,
-            got (next .before .before .before .field .ensures) (next .before .x3 .given .1),
-            ← r .same,
-            e,
+            got partOf (next .before .before .before .field .ensures) (next .before .x3 .given .1),
+            got rightPartOf r e,
           );
-      within = rw e at (r .within);
+      within = ends rightPartOf r e;
     }
 
 pub read-rule-spec : {M : Type 1} → statement M

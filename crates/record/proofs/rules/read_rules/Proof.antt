@@ -2,7 +2,8 @@
 use Prim.Native.Nat.{_≤_, _-_, zero-le}
 use native.Mathlib.Omega.{arith}
 use lib.ListN.{length, drop}
-use Rattle.record.specs.Reader as reader
+use Rattle.record.specs.Reader.{parseRules}
+use Rattle.record.specs.Held.{partOf, rulePartOf}
 use Rattle.record.proofs.Parts.{got, ends, refuses}
 use Rattle.record.proofs.Lists.{padded-none, Progress, starts, steps, breaks, stops}
 use Rattle.record.proofs.OneField.{field-forth}
@@ -12,7 +13,7 @@ use Rattle.record.proofs.rules.read_rules.Tie as tie
 
 abbrev Inv-loop : tie.InvT-loop
 Inv-loop s present g rules₀ i₀ n at₀ rules i at =
-    (at ≤ length s) × Progress (reader.rules present g s) g n i rules (drop at s)
+    (at ≤ length s) × Progress (parseRules present g s) g n i rules (drop at s)
 
 abbrev μ-loop : tie.MeasureT-loop
 μ-loop s present g rules₀ i₀ n at₀ rules i at = n - i
@@ -27,19 +28,19 @@ enum-known-m : tie.Need-enum-known-m Inv-loop μ-loop
 enum-known-m c = search needs
 
 returns : tie.Need-returns Inv-loop μ-loop
-unfolding reader.rules
-returns c = (refuses (rw (got (c .before .before .before .field .ensures) (c .before .m .given .1))), padded-none)
+unfolding parseRules
+returns c = (refuses (rw (got partOf (c .before .before .before .field .ensures) (c .before .m .given .1))), padded-none)
 
 cast-n : tie.Need-cast-n Inv-loop μ-loop
 cast-n c = search needs
 
 loop-holds : tie.Need-loop-holds Inv-loop μ-loop
-unfolding reader.rules
+unfolding parseRules
 loop-holds c =
     let r = c .before .before .before .before .field .ensures in
     let e = c .before .before .x .given .1 in
-    let small = field-forth _ 4 0 65 0 _ zero-le (omega arith) (got r e) .most in
-    (ends r e, starts _ _ _ (omega arith) (rw (got r e)))
+    let small = field-forth _ 4 0 65 0 _ zero-le (omega arith) (got partOf r e) .most in
+    (ends partOf r e, starts _ _ _ (omega arith) (rw (got partOf r e)))
 
 read-rule-requires : tie.Need-read-rule-requires Inv-loop μ-loop
 read-rule-requires c κs = search needs
@@ -54,7 +55,7 @@ returns-2 : tie.Need-returns-2 Inv-loop μ-loop
 returns-2 c =
     let p = c .before .before .before .before .before .loop .inv .1 in
     let r = c .before .before .before .read-rule .ensures in
-    (refuses (breaks p (c .before .before .before .before .loop-test .taken) (rw (← r .same, c .before .m2 .given .1))), p .padded)
+    (refuses (breaks p (c .before .before .before .before .loop-test .taken) (got rulePartOf r (c .before .m2 .given .1))), p .padded)
 
 mul-rules : tie.Need-mul-rules Inv-loop μ-loop
 mul-rules c = search needs
@@ -73,7 +74,7 @@ loop-again c =
     let inv = c .before .before .before .before .before .before .loop .inv in
     let r = c .before .before .before .before .read-rule .ensures in
     let e = c .before .before .x2 .given .1 in
-    (rw e at (r .within), steps (inv .1) (c .before .before .before .before .before .loop-test .taken) (rw (← r .same, e)))
+    (ends rulePartOf r e, steps (inv .1) (c .before .before .before .before .before .loop-test .taken) (got rulePartOf r e))
 
 returns-3 : tie.Need-returns-3 Inv-loop μ-loop
 returns-3 c =

@@ -1,9 +1,9 @@
--- `put` meets its contract: each arm writes the symbols of its constructor above the stack.
+-- `place_right` meets its contract: each arm writes the symbols of its constructor above the stack.
 use native.Mathlib.Omega.{arith}
 use borrow.Author.Needs.{needs}
 use Rattle.replay.proofs.Stacks.{on-top, two-on-top}
-use Rattle.replay.proofs.put.Statement.{statement}
-use Rattle.replay.proofs.put.Tie as tie
+use Rattle.replay.proofs.place_right.Statement.{statement}
+use Rattle.replay.proofs.place_right.Tie as tie
 
 enum-told : tie.Need-enum-told
 enum-told c = search needs
@@ -47,8 +47,8 @@ same-length-2 c = search needs
 returns-3 : tie.Need-returns-3
 returns-3 c = (rw (c .before .x2 .given .1) (two-on-top _ _ _ _ (omega arith)), search needs)
 
-pub put-spec : {M : Type 1} → statement M
-put-spec =
+pub place-right-spec : {M : Type 1} → statement M
+place-right-spec =
     tie.close
     (tie.spec
     enum-told
