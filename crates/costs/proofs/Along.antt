@@ -169,7 +169,7 @@ module _ (i : ThreadId) {G : ℕ} (n : ℕ) (line : List ℕ) (size : length lin
       let l = turn-low i j in
       (state-at G line states (turnOf i j) (omega arith), state-at G line states (suc (turnOf i j)) (omega arith))
 
-  -- The table has a place for where a thread's run along the line starts.
+  -- A thread's run along the line starts at a control of the table.
   pub first-inside : (g : ℕ) → g < G → InTable G n (control 0 (firstState i g line))
   first-inside g h = (omega arith, low i)
     where
@@ -177,6 +177,6 @@ module _ (i : ThreadId) {G : ℕ} (n : ℕ) (line : List ℕ) (size : length lin
       low A = h
       low B = state-at G line states 0 (omega arith)
 
-  -- The table has a place for where it ends.
+  -- It ends at one.
   pub last-inside : InTable G n (control n (lastState i n line))
   last-inside = let l = turn-low i n in (le-refl n, state-at G line states (turnOf i n) (omega arith))

@@ -24,7 +24,7 @@ mod-pow g v j n h =
     mod-mod-of-dvd (g ^ j) v (rw (ap (λ (k : ℕ). g ^ k) e) at (rw (← pow-add g j (n - j)) at (dvd-mul-right (g ^ j) (g ^ (n - j)))))
 
 -- State j of the line of n states whose value is v.
-pub digit : (g : ℕ) → 0 < g → (n v j : ℕ) → v < g ^ n → j < n → getD (digits g n v) j 0 ≡ v % g ^ (n - j) / g ^ (n - 1 - j)
+digit : (g : ℕ) → 0 < g → (n v j : ℕ) → v < g ^ n → j < n → getD (digits g n v) j 0 ≡ v % g ^ (n - j) / g ^ (n - 1 - j)
 unfolding digits
 digit g p zero v j h l = absurd (omega arith)
 digit g p (suc n) v zero h l =

@@ -28,7 +28,7 @@ swapped (left r) = right (swapped r)
 swapped (right r) = left (swapped r)
 
 -- Merging keeps the number of steps.
-pub merged-length : {xs ys ss : List Step} → Merged xs ys ss → length ss ≡ length xs + length ys
+merged-length : {xs ys ss : List Step} → Merged xs ys ss → length ss ≡ length xs + length ys
 merged-length none = refl
 merged-length (left r) = omega (arith, merged-length r)
 merged-length (right r) = omega (arith, merged-length r)

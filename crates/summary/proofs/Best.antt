@@ -13,7 +13,7 @@ use Rattle.summary.specs.Table.{Exact}
 use Rattle.summary.proofs.Tables.{Ranged, Closed, bounded}
 
 module _ {C S : Type 0} (Move : C → ℕ → S → Right → C → Type 0) (Switch : C → C → Type 0) (T : C → ℕ → End C → ℕ) where
-  -- A first move whose entries add up, with the cells that its parts have.
+  -- A first move whose entries add up, with the control that its parts share.
   pub data Best (Ctl : C → Type 0) : C → ℕ → End C → Type 0 where
     here : {c : C} {γ : ℕ} → T c γ (stay c) ≡ 0 → Best Ctl c γ (stay c)
     remove : {c c₁ : C} {γ : ℕ} {s : S} → Move c γ s Remove c₁ → T c γ (pop c₁) ≡ 1 → Best Ctl c γ (pop c₁)

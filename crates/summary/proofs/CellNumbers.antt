@@ -10,17 +10,17 @@ use borrow.Author.Tests.{le-ltb, lt-ltb, ne-eqb}
 use Rattle.summary.specs.Cells.{plain, lane, first, second, blank}
 use Rattle.summary.specs.Table.{cap}
 
--- The parts of the table with turn ends inside.
+-- Where the parts of the table with turn ends inside start.
 abbrev pub baseOf : ℕ → ℕ
 baseOf zero = first
 baseOf (suc m) = second
 
--- The lanes of a cell, by the number of turn ends inside.
+-- How many lanes a destination has, by the number of turn ends inside.
 abbrev pub width : ℕ → ℕ
 width zero = 1
 width (suc m) = 16
 
--- The first lane of a cell, by the number of turn ends inside.
+-- The cell of its first lane, by the number of turn ends inside.
 abbrev pub start : ℕ → ℕ → ℕ → ℕ → ℕ
 start zero g γ d = plain g γ d
 start (suc m) g γ d = lane (baseOf m) g γ d

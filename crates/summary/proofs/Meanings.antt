@@ -99,7 +99,7 @@ module _ (t : Thread) (turnOf : ℕ → ℕ) (ends : ℕ → TurnEnd) (n : ℕ) 
       let same : m ≡ m′ = sym h ∙ ap partOf (sym e) ∙ parts m′ (c .shared) γ (dest d) (laneAt ends m′ (c .passed)) (spans m′ c γ d s) in
       subst (λ m. Passes n m c γ d → start m (c .shared) γ (dest d) + laneAt ends m (c .passed) ≡ k → v ≤ cap → Reached t turnOf ends n c γ d v) same (f c γ d) s e
 
-  -- A cell at an offset of a known cell has stretches from that state and symbol.
+  -- A cell at an offset of a known one has stretches from that state and symbol.
   found : (m g γ d x v : ℕ) → partOf (start m g γ d + x) ≡ m → (m ≤ n → Offset m g γ d x)
       → ((c : Control) (γ₀ : ℕ) (u : End Control) → Passes n m c γ₀ u
       → Alike m (c .shared) γ₀ (dest u) (laneAt ends m (c .passed)) g γ d x → Reached t turnOf ends n c γ₀ u v)

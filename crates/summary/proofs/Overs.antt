@@ -63,7 +63,7 @@ module _ {C S : Type 0} (Move : C → ℕ → S → Right → C → Type 0) (Swi
   stays (Stretch.change s r) = Path.change s (stays r)
 
   -- Switches alone are a run over any stack.
-  pub idles : {c d : C} {w : List ℕ} → Idling Switch c d → Path Move Switch c w [] d
+  idles : {c d : C} {w : List ℕ} → Idling Switch c d → Path Move Switch c w [] d
   idles Idling.none = Path.stop
   idles (Idling.more s r) = Path.change s (idles r)
 

@@ -1,4 +1,4 @@
--- The table has a cell for wherever moves and turn ends lead: a rule in range leads to a state below G, and a turn end of a
+-- Moves and turn ends lead nowhere outside the table: a rule in range leads to a state below G, and a turn end of a
 -- line of such states too.
 use Prim.Native.Nat.{ℕ, _≤_}
 use native.Mathlib.Omega.{arith}
@@ -11,7 +11,7 @@ use Rattle.model.specs.Fits.{RightFits, ThreadFits}
 use Rattle.summary.specs.Control.{Control, TurnEnd, Moves, Switches, InTable, Inside}
 use Rattle.summary.proofs.Tables.{Symbols, Ranged}
 
--- The symbols that the table has cells for; 16 is the floor.
+-- The symbols of the table; 16 is the floor.
 abbrev pub Sym : ℕ → Type 0
 Sym γ = γ ≤ 16
 

@@ -12,12 +12,12 @@ use Rattle.summary.proofs.Relaxing.{wider, still}
 use Rattle.summary.proofs.Spans.{Span}
 
 -- A cell that no edge leads to is as it was.
-pub unled : {P : Edge → Type 0} {t : ℕ → ℕ} {k v : ℕ} → ((e : Edge) → P e → e .to ≡ k → ⊥) → From P t k v → v ≡ t k
+unled : {P : Edge → Type 0} {t : ℕ → ℕ} {k v : ℕ} → ((e : Edge) → P e → e .to ≡ k → ⊥) → From P t k v → v ≡ t k
 unled h (kept k) = refl
 unled h (by e p a b i j) = absurd (h e p refl)
 
 -- What follows from what followed below a bound, where parts lie below it.
-pub inward : {P Q : Edge → Type 0} {t u : ℕ → ℕ} (bound : ℕ) → ((e : Edge) → P e → (e .a < bound) × (e .b < bound))
+inward : {P Q : Edge → Type 0} {t u : ℕ → ℕ} (bound : ℕ) → ((e : Edge) → P e → (e .a < bound) × (e .b < bound))
     → ((e : Edge) → P e → Q e) → ((k : ℕ) → k < bound → From Q t k (u k))
     → {k x : ℕ} → k < bound → From P u k x → From Q t k x
 inward bound parts sub start h (kept k) = start k h

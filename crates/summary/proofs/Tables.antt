@@ -10,7 +10,7 @@ use Rattle.model.specs.declared.Symbol.{Symbol}
 use Rattle.summary.specs.Stretch.{End, pop, stay, endOf, Stretch}
 use Rattle.summary.specs.Table.{cap}
 
--- The new symbols of a right side have a cell in the table.
+-- The new symbols of a right side are symbols of the table.
 abbrev pub Symbols : (ℕ → Type 0) → Right → Type 0
 Symbols Sym Remove = Unit {0}
 Symbols Sym (Swap a) = Sym (a .0)
@@ -23,7 +23,7 @@ pub record AtMost (entry steps : ℕ) : Type 0 where
 
 module _ {C S : Type 0} (Move : C → ℕ → S → Right → C → Type 0) (Switch : C → C → Type 0)
     (Ctl : C → Type 0) (Sym : ℕ → Type 0) where
-  -- Controls and symbols that have a cell in the table lead to such.
+  -- Controls and symbols of the table lead to such.
   pub record Ranged : Type 0 where
     pub moves : {c c₁ : C} {γ : ℕ} {s : S} {x : Right} → Ctl c → Move c γ s x c₁ → Ctl c₁ × Symbols Sym x
     pub switches : {c c₁ : C} → Ctl c → Switch c c₁ → Ctl c₁
@@ -42,7 +42,7 @@ module _ {C S : Type 0} (Move : C → ℕ → S → Right → C → Type 0) (Swi
     pub change : {c c₁ : C} (γ : ℕ) (d : End C) → Ctl c → Sym γ → Ctl (endOf d)
         → Switch c c₁ → T c₁ γ d ≤ cap → AtMost (T c γ d) (T c₁ γ d)
 
-  -- A stretch ends at a control that has a cell, and its entry is reached by no more steps than it has.
+  -- A stretch ends at a control of the table, and its entry is reached by no more steps than it has.
   pub record Bounded (T : C → ℕ → End C → ℕ) (c : C) (γ : ℕ) (d : End C) (ss rest : List S) : Type 0 where
     pub inside : Ctl (endOf d)
     pub reached : T c γ d ≤ cap

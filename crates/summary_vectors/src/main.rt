@@ -3,6 +3,8 @@
 use libc::STDOUT_FILENO;
 use model::Thread;
 use record::Answer;
+use summary::CAP;
+use summary::UNREACHED;
 use vectors::Tally;
 ghost use mathlib.Core.Path.{_≡_};
 ghost use Prim.Native.Nat.{_+_, _≤_, _<_};
@@ -21,7 +23,7 @@ fn doubled(s: usize) -> u64 {
     let mut i = 0;
     while i < s {
         if 2048 <= steps {
-            return 4096;
+            return CAP;
         }
         steps = 2 * steps + 1;
         i += 1;
@@ -37,7 +39,7 @@ fn compared(t: &[u64]) -> Tally {
         tally = tally.counted(count_at(t, 8 * s) == doubled(s));
         s += 1;
     }
-    tally.counted(count_at(t, 104) == 4097)
+    tally.counted(count_at(t, 104) == UNREACHED)
 }
 
 // The sum of some cells.

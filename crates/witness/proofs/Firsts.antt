@@ -54,7 +54,7 @@ pub control-is : (c : Control) (j s : ℕ) → j ≡ c .passed → s ≡ c .shar
 control-is c j s p q = rw (p, q)
 
 -- The parts of the control that has number y.
-pub at-control : (j s y : ℕ) → s < 4 → y ≡ 4 * j + s → (y / 4 ≡ j) × (y % 4 ≡ s)
+at-control : (j s y : ℕ) → s < 4 → y ≡ 4 * j + s → (y / 4 ≡ j) × (y % 4 ≡ s)
 at-control j s y h e = let a : y / 4 ≡ j = omega arith in let b : y % 4 ≡ s = omega arith in (a, b)
 
 module _ {tab plan : List ℕ} (w : Setting tab plan) where

@@ -73,7 +73,7 @@ module _ {tab plan : List ℕ} {g : Goal} (r : Ready tab plan g) where
         fits = record { passed = f .passed; shared = p; symbol = q; until = f .until; dest = f .dest };
       }
 
-  pub entered-ready : (h : ℕ) → h < 4 → g .passed < g .until → Ready tab plan (enteredAt g h)
+  entered-ready : (h : ℕ) → h < 4 → g .passed < g .until → Ready tab plan (enteredAt g h)
   entered-ready h p q =
       let f = r .fits in
       record {

@@ -54,7 +54,7 @@ first-stored {count = count} {at = at} {old = old} s f h r =
     }
 
 -- Two runs one after the other.
-pub both-stored : {P Q R : List Step → Type 0} {x count at : ℕ} {old mid new : List ℕ}
+both-stored : {P Q R : List Step → Type 0} {x count at : ℕ} {old mid new : List ℕ}
     → ((xs ys : List Step) → P xs → Q ys → R (xs ++ ys)) → x ≤ count
     → Stored P x at old mid → Stored Q (count - x) (at + 2 * x) mid new → Stored R count at old new
 both-stored {x = x} {count = count} {at = at} {old = old} f h r q =

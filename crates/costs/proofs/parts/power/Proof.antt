@@ -1,8 +1,6 @@
 -- `power` meets its contract. The invariant: r is the power with exponent i.
 use mathlib.Core.Path.{_≡_, sym}
-use mathlib.Core.Path.{_≡_}
 use Prim.Native.Nat.{_-_, _^_, _≤_}
-use native.Mathlib.Nat.{le-antisymm}
 use native.Mathlib.Nat.{le-antisymm, pow-zero}
 use native.Mathlib.Omega.{arith}
 use borrow.Author.Needs.{needs}

@@ -74,7 +74,7 @@ pub put-step-requires : (t : ℕ) → stretch-lts.Need-put-step-requires (stretc
 put-step-requires t c κs =
     let p = c .before .before .before .before .before .before .before .before .pre in
     let l = listed t (c .before) in
-    (p .1 .0 .range, (p .1 .0 .fits .passed, omega (arith, p .1 .0 .range .count), omega (arith, p .1 .1 .1, c .before .before .before .before .if1 .left)))
+    (p .1 .0 .range, (omega (arith, p .1 .0 .fits), omega (arith, p .1 .0 .range .count), omega (arith, p .1 .1 .1, c .before .before .before .before .if1 .left)))
 
 pub after-step-requires : (t : ℕ) → stretch-lts.Need-after-step-requires (stretch-calls t) (stretch-at t) stretch.Post
 after-step-requires t c κs = search needs
