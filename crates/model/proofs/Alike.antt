@@ -1,5 +1,5 @@
 -- Unused rule places change nothing: a rule that applies is in the list, so models that are the same make the same walks
--- and have the same verdict.
+-- and runs, and have the same marked lines and the same verdict.
 use mathlib.Core.List.{List, [], _∷_}
 use mathlib.Core.Path.{_≡_, refl, sym, ap, fun-ext}
 use Prim.Native.Nat.{ℕ, _<_}
@@ -10,14 +10,15 @@ use Rattle.model.specs.declared.Model.{Model}
 use Rattle.model.specs.declared.Shared.{Shared}
 use Rattle.model.specs.declared.Thread.{Thread}
 use Rattle.model.specs.Rules.{applies}
-use Rattle.model.specs.Runs.{Leads, Reaches}
+use Rattle.model.specs.Runs.{Leads, Reaches, Turns, stop, end, move, Marked}
 use Rattle.model.specs.Valid.{SameThread, Same, Valid}
 use Rattle.model.specs.Verdict.{Verdict, clear, long, found, AtLeast, Judged}
 use Rattle.model.specs.declared.ThreadId.{ThreadId}
 use Rattle.model.specs.declared.ThreadId.the-variants.{A, B}
-use Rattle.model.specs.Walk.{ownerOf, threadOf, stackOf}
+use Rattle.model.specs.Walk.{ownerOf, threadOf, Stacks, stackOf}
 use Rattle.model.specs.Walk.{Config, startOf, Step, turnFits, fire, stepFrom, walk}
 use Rattle.model.specs.Fits.{ThreadFits}
+use Rattle.model.proofs.Inside.{Applies, applies-iff}
 use Rattle.model.proofs.Ranges.{valid-fits}
 
 -- Sameness goes both ways.
@@ -94,6 +95,23 @@ same-reaches s {ss} l = rw (ap (λ (t : Shared). t .0) (s .target)) at (same-lea
 
 same-least : {m n : Model} → Same m n → {k : ℕ} → AtLeast m k → AtLeast n k
 same-least s h ss l = h ss (same-reaches (back s) l)
+
+-- A run of one is a run of the other: a rule that applies is in the list, and there it is the same one.
+same-turns : {m n : Model} → Same m n → {t q : ℕ} {σ : Stacks} {line : List ℕ} {ss : List Step}
+    → Turns m t q σ line ss → Turns n t q σ line ss
+same-turns s stop = stop
+same-turns s (end r) = end (same-turns s r)
+same-turns {m} {n} s {t} {q} (move {r = r} {top = top} e p rest) =
+    let i = thread-of s (ownerOf t) in
+    let a = applies-iff (threadOf (ownerOf t) m) r q top .0 p in
+    let same = i .rules r (a .listed) in
+    let applied : Applies (threadOf (ownerOf t) n) r q top =
+    record { listed = rw (← i .count) (a .listed); state = rw (← same) (a .state); symbol = rw (← same) (a .symbol) } in
+    move e (applies-iff (threadOf (ownerOf t) n) r q top .1 applied) (rw same at (same-turns s rest))
+
+-- Models that are the same have the same marked lines.
+pub same-marked : {m n : Model} → Same m n → {line : List ℕ} → Marked m line → Marked n line
+same-marked s r = (r .0, rw (s .start, s .a .first, s .b .first) at (same-turns s (r .1)))
 
 -- A verdict of one is a verdict of the other.
 pub same-judged : {m n : Model} → Same m n → (v : Verdict) → Judged m v → Judged n v

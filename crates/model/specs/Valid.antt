@@ -1,10 +1,10 @@
 -- Which models are valid, which refusal number a model handed in as values gets, and when two models are the same.
 use mathlib.Core.Bool.{Bool, _&&_}
-use mathlib.Core.List.{List, [], _∷_, map}
+use mathlib.Core.List.{[], _∷_, map}
 use mathlib.Core.Path.{_≡_}
 use Prim.Native.Nat.{ℕ, _<_}
 use lib.Dec.{leb, ltb}
-use lib.ListN.{take}
+use lib.ListN.{length, take}
 use Rattle.model.specs.declared.Model.{Model}
 use Rattle.model.specs.declared.Right.{Right}
 use Rattle.model.specs.declared.Right.the-variants.{Remove, Swap, Push}
@@ -71,3 +71,8 @@ pub record Same (m n : Model) : Type 0 where
   pub target : m .target ≡ n .target
   pub a : SameThread (m .a) (n .a)
   pub b : SameThread (m .b) (n .b)
+
+-- A model has 64 rule places a thread, as the arrays of every model handed in do.
+pub record Places (m : Model) : Type 0 where
+  pub a : length (m .a .rules) ≡ 64
+  pub b : length (m .b .rules) ≡ 64
