@@ -1,17 +1,17 @@
 -- A step of the walk, decided test by test: its turn number first, then the step of the thread whose turn it is.
-use mathlib.Core.Bool.{Bool, true, false, cond}
+use mathlib.Core.Bool.{Bool, true, false}
 use mathlib.Core.List.{List, [], _∷_}
 use mathlib.Core.Path.{_≡_, refl}
 use Prim.Native.Nat.{ℕ, zero, suc, _*_, _%_, _<_, _≤_}
 use native.Mathlib.Omega.{arith}
 use borrow.Author.Tests.{le-ltb, lt-ltb, le-leb, lt-leb}
 use Rattle.model.specs.declared.Model.{Model}
-use Rattle.model.specs.Results.{refused, accepted, need}
+use Rattle.model.specs.Results.{refused, accepted, andThen, need}
 use Rattle.model.specs.Rules.{applies}
 use Rattle.model.specs.Walk.{ownerOf, threadOf, stackOf, withStack, Config, Step, Walked, turnFits, fire, stepFrom}
 use Rattle.model.specs.declared.ThreadId.{ThreadId}
 use Rattle.model.specs.declared.ThreadId.the-variants.{A, B}
-use Rattle.replay.specs.Stack.{Moved, stuck, moved, moveOf}
+use Rattle.replay.specs.Stack.{Moved, moveOf}
 
 -- Even turns are A's ..
 pub even-turn : (t : ℕ) → t % 2 ≡ 0 → ownerOf t ≡ A
@@ -27,14 +27,14 @@ odd-turn (suc (suc t)) h = rw (odd-turn t (λ e. h (omega arith)))
 
 -- What the step of a thread comes to as a step of the walk.
 abbrev pub carried : ThreadId → Config → Step → Moved → Walked
-carried i c s stuck = refused 10
-carried i c s (moved g w) = accepted (record { turn = s .turn; shared = g; stacks = withStack i w (c .stacks) })
+carried i c s x =
+    andThen x (λ y. accepted (record { turn = s .turn; shared = y .0; stacks = withStack i (y .1) (c .stacks) }))
 
 -- A rule that does not apply is refused either way.
-decides : (i : ThreadId) (c : Config) (s : Step) (b : Bool) (g : ℕ) (w : List ℕ)
-    → need 10 b (carried i c s (moved g w)) ≡ carried i c s (cond b (moved g w) stuck)
-decides i c s true g w = refl
-decides i c s false g w = refl
+decides : (i : ThreadId) (c : Config) (s : Step) (b : Bool) (x : Moved)
+    → need 10 b (carried i c s x) ≡ carried i c s (need 10 b x)
+decides i c s true x = refl
+decides i c s false x = refl
 
 module _ (m : Model) (c : Config) (s : Step) where
   -- A turn number below the one before is refused ..
@@ -52,7 +52,7 @@ module _ (m : Model) (c : Config) (s : Step) where
       → fire m c s w ≡ carried i c s (moveOf (threadOf i m) (s .rule) (c .shared) w)
   unfolding fire moveOf
   fires i e [] = refl
-  fires i e (top ∷ w) = rw e (decides i c s (applies (threadOf i m) (s .rule) (c .shared) top) _ _)
+  fires i e (top ∷ w) = rw e (decides i c s (applies (threadOf i m) (s .rule) (c .shared) top) (accepted _))
 
   -- Any other turn is the step of its thread i, which comes to x.
   pub comes : (i : ThreadId) → ownerOf (s .turn) ≡ i → c .turn ≤ s .turn → s .turn < 2 * m .k

@@ -1,12 +1,11 @@
 -- Stacks in buffers, and what the walk's functions say in terms of configurations.
-use mathlib.Core.Bool.{cond}
 use mathlib.Core.List.{List, [], _∷_}
 use mathlib.Core.Path.{_≡_}
 use Prim.Native.Nat.{ℕ, zero, suc, _+_, _≤_}
 use lib.ListN.{length, getD}
 use Rattle.model.specs.declared.Model.{Model}
 use Rattle.model.specs.declared.Thread.{Thread}
-use Rattle.model.specs.Results.{refused, accepted}
+use Rattle.model.specs.Results.{Result, refused, accepted, need}
 use Rattle.model.specs.Rules.{ruleAt, applies, put}
 use Rattle.model.specs.Walk.{Config, Walked}
 use Rattle.replay.specs.declared.Fired.{Fired}
@@ -45,21 +44,20 @@ abbrev pub Grows : Walk → Stepped → List ℕ → List ℕ → List ℕ → L
 Grows w (Made v) a b a′ b′ = (v .a ≤ w .a + 1) × (v .b ≤ w .b + 1)
 Grows w (Refused n) a b a′ b′ = (a′ ≡ a) × (b′ ≡ b)
 
--- What one thread's step makes of the shared state and its stack; stuck where it makes none.
-pub data Moved : Type 0 where
-  stuck : Moved
-  moved : ℕ → List ℕ → Moved
+-- What one thread's step makes of the shared state and its stack.
+abbrev pub Moved : Type 0
+Moved = Result (ℕ × List ℕ)
 
--- A thread's step by rule r: with an empty stack there is none, and the rule must apply.
+-- A thread's step by rule r: with an empty stack there is none, and the rule must apply (10).
 unfoldable pub moveOf : Thread → ℕ → ℕ → List ℕ → Moved
-moveOf t r shared [] = stuck
+moveOf t r shared [] = refused 10
 moveOf t r shared (top ∷ w) =
-    cond (applies t r shared top) (moved (ruleAt t r .after .0) (put (ruleAt t r .right) w)) stuck
+    need 10 (applies t r shared top) (accepted (ruleAt t r .after .0, put (ruleAt t r .right) w))
 
 -- What the answer of a thread's step stands for, with the buffer as it left it.
 abbrev pub movedOf : Fired → List ℕ → Moved
-movedOf (Done shared n) l = moved shared (topFirst n l)
-movedOf Stuck l = stuck
+movedOf (Done shared n) l = accepted (shared, topFirst n l)
+movedOf Stuck l = refused 10
 
 -- The same of one thread's stack: at most one symbol more, and where it is stuck the buffer is as it was.
 abbrev pub Fires : ℕ → Fired → List ℕ → List ℕ → Type 0
