@@ -12,7 +12,7 @@ use Rattle.model.specs.declared.Model.{Model}
 use Rattle.model.specs.declared.Thread.{Thread}
 use Rattle.model.specs.Fits.{ThreadFits}
 use Rattle.model.specs.Results.{accepted, refuse, firstOf}
-use Rattle.model.specs.Valid.{Valid, faultOf, storeRefusal}
+use Rattle.model.specs.Valid.{Valid, faultOf, storeRefusal, Places}
 use Rattle.model.proofs.Checks.{stops}
 use Rattle.model.proofs.Ranges.{valid-fits}
 use Rattle.model.proofs.Results.{due}
@@ -20,7 +20,8 @@ use Rattle.record.specs.declared.Written.{Written}
 use Rattle.record.specs.declared.Written.the-variants.{Length, Refused}
 use Rattle.writer.specs.Put.{Put, Small}
 use Rattle.writer.specs.Writer.{recordOf}
-use Rattle.record.specs.Written.{writtenOf, storeOf, holding}
+use Rattle.record.specs.Written.{writtenOf, storeOf, holding, Survives}
+use Rattle.record.proofs.Records.{written-read}
 
 -- A thread in range, of at most four states, is small.
 small : (g : ℕ) (t : Thread) → g ≤ 4 → ThreadFits g t → Small t
@@ -38,26 +39,35 @@ front {l} {m} {n} bytes p h =
     rw (p .ends, p .stored, zero-add, sets-eq bytes l 0 (omega arith)) (take-append-seam bytes _)
 
 module _ (m : Model) (store : List ℕ) where
+  -- What the call promises of an answer and of the store as it leaves it.
+  abbrev Told : Written → List ℕ → Type 0
+  Told r new = (r ≡ writtenOf m (length store)) × ((new ≡ storeOf m store) × Survives m r new)
+
   -- The answer fixes what the store holds.
-  fixed : (r : Written) → r ≡ writtenOf m (length store)
-      → (r ≡ writtenOf m (length store)) × (holding r (recordOf m) store ≡ storeOf m store)
+  fixed : (r : Written) → r ≡ writtenOf m (length store) → holding r (recordOf m) store ≡ storeOf m store
   unfolding storeOf
-  fixed r e = (e, rw (← e))
+  fixed r e = rw (← e)
 
   -- A model with a fault is refused by it ..
-  pub faulty : {n : ℕ} → n ≡ faultOf m → (n ≡ 0 → ⊥)
-      → (Refused n ≡ writtenOf m (length store)) × (store ≡ storeOf m store)
+  pub faulty : {n : ℕ} → n ≡ faultOf m → (n ≡ 0 → ⊥) → Told (Refused n) store
   unfolding writtenOf storeRefusal
-  faulty {n} e h = fixed (Refused n) (rw (← stops (refuse 7 (leb (length (recordOf m)) (length store)) ∷ []) e h, ← due (accepted (length (recordOf m))) h))
+  faulty {n} e h =
+      let due-first = stops (refuse 7 (leb (length (recordOf m)) (length store)) ∷ []) e h in
+      let r : Refused n ≡ writtenOf m (length store) = rw (← due-first, ← due (accepted (length (recordOf m))) h) in
+      (r, (fixed (Refused n) r, tt))
 
   -- .. and of a valid one a record that does not fit ..
-  pub short : Valid m → {n : ℕ} → n ≡ length (recordOf m) → length store < n
-      → (Refused 7 ≡ writtenOf m (length store)) × (store ≡ storeOf m store)
+  pub short : Valid m → {n : ℕ} → n ≡ length (recordOf m) → length store < n → Told (Refused 7) store
   unfolding writtenOf storeRefusal firstOf
-  short v e h = fixed (Refused 7) (rw (v, ← e, lt-leb _ _ h))
+  short v e h =
+      let r : Refused 7 ≡ writtenOf m (length store) = rw (v, ← e, lt-leb _ _ h) in
+      (r, (fixed (Refused 7) r, tt))
 
-  -- .. while one that fits is written.
-  pub whole : Valid m → {n : ℕ} → n ≡ length (recordOf m) → n ≤ length store
-      → (Length n ≡ writtenOf m (length store)) × (recordOf m ++ drop n store ≡ storeOf m store)
+  -- .. while one that fits is written, and is read back.
+  pub whole : Valid m → Places m → {n : ℕ} → n ≡ length (recordOf m) → n ≤ length store
+      → Told (Length n) (recordOf m ++ drop n store)
   unfolding writtenOf storeRefusal firstOf
-  whole v {n} e h = fixed (Length n) (rw (v, ← e, le-leb _ _ h))
+  whole v p {n} e h =
+      let r : Length n ≡ writtenOf m (length store) = rw (v, ← e, le-leb _ _ h) in
+      let held : take n (recordOf m ++ drop n store) ≡ recordOf m = rw e (take-append-seam (recordOf m) _) in
+      (r, (fixed (Length n) r, rw held (written-read m v p)))

@@ -1,4 +1,5 @@
 pub mod Answers
+pub mod Decided
 pub mod Fronts
 pub mod Heads
 pub mod Lists
@@ -7,4 +8,5 @@ pub mod OneField
 pub mod Parts
 pub mod Records
 pub mod RuleLists
+pub mod Steady
 pub mod ThreadRules

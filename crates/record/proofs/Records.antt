@@ -13,23 +13,19 @@ use Rattle.model.specs.declared.Thread.{Thread}
 use Rattle.model.specs.Bits.{bit}
 use Rattle.model.specs.Results.{refused, accepted}
 use Rattle.model.specs.Rules.{zeroRule}
-use Rattle.model.specs.Valid.{Valid, SameThread, Same}
+use Rattle.model.specs.Valid.{Valid, SameThread, Places}
 use Rattle.model.proofs.Ranges.{valid-fits}
 use Rattle.model.proofs.Results.{apart}
 use Rattle.record.specs.declared.Reading.{Reading}
 use Rattle.record.specs.Kept.{Unused, Kept, Keeps}
 use Rattle.record.specs.Held.{readingOf}
 use Rattle.record.specs.Reader.{Read, parseRules, Head, parseHead, threadOf, modelOf, parseFront, ended, readOf}
+use Rattle.record.specs.Written.{ReadsBack}
 use Rattle.writer.specs.Writer.{weightOf, rulesOf, mapOf, headBytes, recordOf}
 use Rattle.record.proofs.OneField.{parted, carried, value-same}
 use Rattle.record.proofs.Maps.{HeadBits, head-sum}
 use Rattle.record.proofs.ThreadRules.{rules-back, RulesRead, rules-forth, thread-fits, rules-bytes}
 use Rattle.record.proofs.Heads.{headOf, headWith, map-bits, head-back, HeadRead, head-forth}
-
--- Every model has 64 rule places a thread, as its type says.
-pub record Places (m : Model) : Type 0 where
-  pub a : length (m .a .rules) ≡ 64
-  pub b : length (m .b .rules) ≡ 64
 
 -- A model with its unused places zero.
 pub tidy : Model → Model
@@ -134,21 +130,23 @@ tidy-same t n k =
     }
 
 -- Every valid model survives writing and reading, as the same model with its unused places zero.
-pub written-read : (m : Model) → Valid m → Places m → (readOf (recordOf m) ≡ accepted (tidy m, [])) × Same m (tidy m)
+pub written-read : (m : Model) → Valid m → Places m → ReadsBack m (recordOf m)
 unfolding readOf tidy headOf
 written-read m v p =
     let f = valid-fits m .0 v in
-    let e : parseFront (recordOf m) ≡ accepted (tidy m, []) = rw append-nil at (front-back m v p []) in (
-      rw e,
-      record {
+    let e : parseFront (recordOf m) ≡ accepted (tidy m, []) = rw append-nil at (front-back m v p []) in
+    record {
+      model = tidy m;
+      read = rw e;
+      same = record {
         g = refl;
         k = refl;
         start = refl;
         target = refl;
         a = tidy-same (m .a) (p .a) (f .a .count);
         b = tidy-same (m .b) (p .b) (f .b .count);
-      },
-    )
+      };
+    }
 
 -- The reading of bytes keeps what it accepts.
 pub keeps : (bs : List ℕ) → getD bs 0 0 < 256 → Keeps (readingOf (readOf bs)) bs

@@ -1,13 +1,15 @@
--- What the call that writes a record answers, and what the store then holds.
-use mathlib.Core.List.{List, _++_}
+-- What the call that writes a record answers, what the store then holds, and that it is read back.
+use mathlib.Core.List.{List, [], _++_}
+use mathlib.Core.Path.{_≡_}
 use Prim.Native.Nat.{ℕ}
 use lib.Dec.{leb}
-use lib.ListN.{length, drop}
+use lib.ListN.{length, take, drop}
 use Rattle.model.specs.declared.Model.{Model}
 use Rattle.model.specs.Results.{Result, refused, accepted, unless}
-use Rattle.model.specs.Valid.{storeRefusal}
+use Rattle.model.specs.Valid.{storeRefusal, Same}
 use Rattle.record.specs.declared.Written.{Written}
 use Rattle.record.specs.declared.Written.the-variants.{Length, Refused}
+use Rattle.record.specs.Reader.{readOf}
 use Rattle.writer.specs.Writer.{recordOf}
 
 -- The answer, by what writing comes to: the record's length, or the refusal.
@@ -28,3 +30,14 @@ holding (Length n) bytes store = bytes ++ drop n store
 -- What the store holds after the call.
 unfoldable pub storeOf : Model → List ℕ → List ℕ
 storeOf m store = holding (writtenOf m (length store)) (recordOf m) store
+
+-- Bytes hold a model: they are read whole, as a model that is the same.
+pub record ReadsBack (m : Model) (bytes : List ℕ) : Type 0 where
+  pub model : Model
+  pub read : readOf bytes ≡ accepted (model, [])
+  pub same : Same m model
+
+-- Every valid model survives writing and reading: where a record was written, so many bytes of the store hold the model.
+abbrev pub Survives : Model → Written → List ℕ → Type 0
+Survives m (Length n) store = ReadsBack m (take n store)
+Survives m (Refused n) store = Unit {0}

@@ -7,7 +7,7 @@ ghost use lib.ListN.{length};
 ghost use Rattle.record.specs.Held.{readingOf};
 ghost use Rattle.record.specs.Kept.{Keeps};
 ghost use Rattle.record.specs.Reader.{readOf};
-ghost use Rattle.record.specs.Written.{writtenOf, storeOf};
+ghost use Rattle.record.specs.Written.{writtenOf, storeOf, Survives};
 
 mod field;
 pub mod reader;
@@ -62,7 +62,9 @@ pub fn read(bytes: &[u8]) -> Reading
 
 // Writes a model's record to the front of the store, which stays as it was where the call refuses.
 pub fn write(m: Model, store: &mut [u8]) -> Written
-    ensures { λ r. ⌜ (r ≡ writtenOf m (length (now (store .entry)))) × (now (store .exit) ≡ storeOf m (now (store .entry))) ⌝ }
+    ensures answer { λ r. ⌜ r ≡ writtenOf m (length (now (store .entry))) ⌝ }
+    ensures stored { λ r. ⌜ now (store .exit) ≡ storeOf m (now (store .entry)) ⌝ }
+    ensures survives { λ r. ⌜ Survives m r (now (store .exit)) ⌝ }
 {
     let fault = model::fault(m);
     if fault != 0 {

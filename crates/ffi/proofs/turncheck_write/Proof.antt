@@ -44,7 +44,7 @@ returns c =
     let arm = c .before .before .before .before .before .before .before in
     let wrote = c .before .before .before .before .before .write .ensures in
     of-model _ (arm .before .before .read .ensures .0) (arm .enum-told .given .1)
-    (ap writtenNumber (sym (c .before .n .given .1) ∙ wrote .0), wrote .1)
+    (ap writtenNumber (sym (c .before .n .given .1) ∙ wrote .0), wrote .1 .0)
 
 same-length-2 : tie.Need-same-length-2
 same-length-2 c = search needs
@@ -54,7 +54,7 @@ returns-2 c =
     let arm = c .before .before .before .before .before .before .before in
     let wrote = c .before .before .before .before .before .write .ensures in
     of-model _ (arm .before .before .read .ensures .0) (arm .enum-told .given .1)
-    (ap writtenNumber (sym (c .before .n2 .given .1) ∙ wrote .0), wrote .1)
+    (ap writtenNumber (sym (c .before .n2 .given .1) ∙ wrote .0), wrote .1 .0)
 
 returns-3 : tie.Need-returns-3
 returns-3 c =

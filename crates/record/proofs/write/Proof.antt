@@ -2,7 +2,8 @@
 use borrow.Author.Needs.{needs}
 use mathlib.Core.Path.{sym, _∙_}
 use native.Mathlib.Omega.{arith}
-use Rattle.model.specs.Valid.{Valid}
+use Rattle.model.specs.Valid.{Valid, Places}
+use Rattle.model.proofs.Checks.{length-mapped}
 use Rattle.record.proofs.Answers.{both-small, front, faulty, short, whole}
 use Rattle.writer.proofs.Lengths.{at-most}
 use Rattle.record.proofs.write.Statement.{statement}
@@ -17,6 +18,14 @@ returns c = faulty _ _ (c .before .fault .ensures) (c .if1 .taken)
 -- Past the first test the model is valid.
 valid : (c : tie.Else1) → Valid (c .before .before .before .args .m)
 valid c = sym (c .before .fault .ensures) ∙ c .if1 .left
+
+-- Its rule places are as many as its type says.
+places : (c : tie.Else1) → Places (c .before .before .before .args .m)
+places c =
+    let fields = c .before .before .before .good .0 .0 .1 .1 .1 .1 in
+    let a = fields .0 in
+    let b = fields .1 .0 in
+    record { a = search (length-mapped, needs, a); b = search (length-mapped, needs, b) }
 
 slice-aggregate-put-record : tie.Need-slice-aggregate-put-record
 slice-aggregate-put-record c = search needs
@@ -42,7 +51,7 @@ returns-3 c =
     let put = c .before .before .before .before .before .before .before in
     let ok = valid (put .before .before) in
     rw (c .before .before .copy .ensures, front _ (put .put-record .ensures) (at-most _ ok))
-    (whole _ _ ok (omega arith) (c .before .before .before .before .before .if2 .left))
+    (whole _ _ ok (places (put .before .before)) (omega arith) (c .before .before .before .before .before .if2 .left))
 
 pub write-spec : {M : Type 1} → statement M
 write-spec =

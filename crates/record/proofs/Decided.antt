@@ -1,0 +1,117 @@
+-- 650 bytes decide the answer to a record, and a record is refused by a number from 1 to 6: every part of the reader is
+-- steady, part by part, and a record takes at most 649 bytes.
+use mathlib.Core.Bool.{Bool, true, false, not}
+use mathlib.Core.List.{List, [], _∷_}
+use mathlib.Core.Path.{_≡_, refl}
+use Prim.Native.Nat.{ℕ, zero, suc, _*_, _/_, zero-le}
+use native.Mathlib.Decide.{decLt}
+use native.Mathlib.Omega.{arith}
+use lib.Dec.{ltb, eqb}
+use lib.ListN.{length, take, drop, take-append-drop}
+use lib.Seq.{take-all, length-take-le}
+use Rattle.model.specs.declared.Model.{Model}
+use Rattle.model.specs.Bits.{bit}
+use Rattle.model.specs.Results.{refused, accepted}
+use Rattle.record.specs.Reader.{Read, andRead, inRange, parseRanged, parseField, ruleMap, parseRight, parseRule}
+use Rattle.record.specs.Reader.{parseRuleList, parseRules, parseHead, parseFront, ended, readOf}
+use Rattle.record.proofs.OneField.{field-forth}
+use Rattle.record.proofs.Steady.{Low, Takes, before, Steady, none, one, tested, wider, chained}
+
+-- The numbers that the reader refuses by.
+two : Low 2
+two = (omega arith, omega arith)
+
+three : Low 3
+three = (omega arith, omega arith)
+
+four : Low 4
+four = (omega arith, omega arith)
+
+five : Low 5
+five = (omega arith, omega arith)
+
+ranged : (k low limit : ℕ) → Low k → Steady 1 (parseRanged k low limit)
+unfolding parseRanged
+ranged k low limit l = chained one λ bs b rest e. tested k (inRange low limit b) l (none b)
+
+field : (present : Bool) (k low limit default : ℕ) → Low k → Steady 1 (parseField present k low limit default)
+unfolding parseField
+field false k low limit default l = wider zero-le (none default)
+field true k low limit default l = chained (ranged k low limit l) λ bs b rest e. tested 5 (not (eqb b default)) five (none b)
+
+right : (first second : Bool) → Steady 2 (parseRight first second)
+unfolding parseRight
+right false second = wider zero-le (none _)
+right true false = wider (omega arith) (chained (ranged 4 0 16 four) λ bs a rest e. none _)
+right true true = chained (ranged 4 0 16 four) λ bs a rest e. chained (ranged 4 0 16 four) λ bs b rest f. none _
+
+rule : (g : ℕ) → Steady 5 (parseRule g)
+unfolding parseRule
+rule g =
+    chained one λ bs map rest e.
+    tested 4 (ruleMap map) four
+    (chained one λ bs pair rest e.
+    tested 4 (ltb (pair / 16) g) four
+    (chained (field (bit 0 map) 4 0 g (pair / 16) four) λ bs next rest e.
+    chained (right (bit 1 map) (bit 2 map)) λ bs new rest e. none _))
+
+list : (g n : ℕ) → Steady (n * 5) (parseRuleList g n)
+unfolding parseRuleList
+list g zero = none []
+list g (suc n) =
+    wider (omega arith) (chained (rule g) λ bs r rest e. chained (list g n) λ bs rs rest e. none _)
+
+rules : (present : Bool) (g : ℕ) → Steady 321 (parseRules present g)
+unfolding parseRules
+rules present g =
+    chained {k = 320} (field present 4 0 65 0 four) λ bs n rest e.
+    let low = field-forth present 4 0 65 0 bs zero-le (omega arith) e .most in
+    wider (omega arith) (list g n)
+
+head : Steady 7 parseHead
+unfolding parseHead
+head =
+    chained one λ bs map rest e.
+    tested 2 (bit 3 map) two
+    (chained (field (bit 0 map) 3 1 5 4 three) λ bs g rest e.
+    chained (field (bit 1 map) 3 1 4 2 three) λ bs k rest e.
+    chained (field (bit 2 map) 3 0 g 0 three) λ bs start rest e.
+    chained (ranged 3 0 g three) λ bs target rest e.
+    chained (field (bit 4 map) 3 0 16 0 three) λ bs a rest e.
+    chained (field (bit 5 map) 3 0 16 0 three) λ bs b rest e. none _)
+
+-- A record at the front takes at most 649 bytes, 7 + 2 · 321, and they decide it.
+pub front : Steady 649 parseFront
+unfolding parseFront
+front =
+    chained head λ bs h rest e.
+    chained (rules (bit 6 (h .map)) (h .g)) λ bs ra rest e.
+    chained (rules (bit 7 (h .map)) (h .g)) λ bs rb rest e. none _
+
+-- The refusal of a whole record.
+pub record-refusal : (bs : List ℕ) {n : ℕ} → readOf bs ≡ refused n → Low n
+unfolding readOf
+record-refusal bs {n} = go (parseFront bs) (front .takes bs)
+  where
+    go : (r : Read Model) → Takes (length bs) 649 r → andRead r ended ≡ refused n → Low n
+    go (refused k) t e = let same : k ≡ n = cc in rw same at t
+    go (accepted (m, [])) t e = let z : _≡_ {A = ℕ} 0 1 = cc in absurd (omega arith)
+    go (accepted (m, b ∷ rest)) t e = let six : _≡_ {A = ℕ} 6 n = cc in (omega arith, omega arith)
+
+-- A byte is left of 650, and more behind it changes nothing.
+left-over : (more : List ℕ) (r : Read Model) → Takes 650 649 r → andRead (before more r) ended ≡ andRead r ended
+left-over more (refused n) t = refl
+left-over more (accepted (m, [])) t = absurd (omega arith)
+left-over more (accepted (m, b ∷ rest)) t = refl
+
+-- The first 650 bytes decide the answer.
+pub decided : (bs : List ℕ) → readOf bs ≡ readOf (take 650 bs)
+unfolding readOf
+decided bs = elim (decLt 650 (length bs)) [
+  | yes h ↦
+      let size : length (take 650 bs) ≡ 650 = length-take-le 650 bs (omega arith) in
+      let first : parseFront bs ≡ before (drop 650 bs) (parseFront (take 650 bs)) =
+      rw take-append-drop at (front .decided (take 650 bs) (drop 650 bs) (omega arith)) in
+      rw first (left-over (drop 650 bs) (parseFront (take 650 bs)) (rw size at (front .takes (take 650 bs))))
+  | no h ↦ rw (take-all 650 bs (omega arith))
+]
