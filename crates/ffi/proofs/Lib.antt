@@ -1,2 +1,3 @@
-pub mod Numbers
+pub mod Ranges
 pub mod Records
+pub mod Replies

@@ -1,54 +1,68 @@
--- From the reader's answer to what a call promises: reading gave a model or a refusal, and the code went the same way.
+-- What the reader's answer says of the bytes: reading gave a valid model, or a refusal from 1 to 6.
 use mathlib.Core.List.{List}
-use mathlib.Core.Path.{_≡_, sym, ap, subst}
-use Prim.Native.Nat.{ℕ, zero, suc, _≤_}
+use mathlib.Core.Path.{_≡_, refl, sym}
+use Prim.Native.Nat.{ℕ}
 use native.Mathlib.Omega.{arith}
-use lib.Dec.{leb}
 use lib.ListN.{length}
 use Rattle.model.specs.declared.Model.{Model}
-use Rattle.model.specs.Results.{refused, accepted, unless}
-use Rattle.model.specs.Valid.{Valid, storeRefusal}
-use Rattle.writer.proofs.Lengths.{at-most}
+use Rattle.model.specs.Results.{refused, accepted}
+use Rattle.model.specs.Valid.{Valid}
 use Rattle.record.specs.declared.Answer.the-variants.{Accepted, Refused}
 use Rattle.record.specs.declared.Reading.{Reading}
-use Rattle.record.specs.declared.Written.{Written}
-use Rattle.record.specs.declared.Written.the-variants as written
 use Rattle.record.specs.Held.{readingOf}
-use Rattle.record.specs.Reader.{Read}
-use Rattle.writer.specs.Writer.{recordOf}
-use Rattle.record.specs.Written.{answer, writtenOf}
+use Rattle.record.specs.Kept.{Keeps}
+use Rattle.record.specs.Reader.{Read, readOf}
+use Rattle.ffi.specs.Replies as reply
 use Rattle.judge.specs.declared.Judgement.{Judgement}
 use Rattle.judge.specs.Answer.{refusalOf, Answers, LeavesLines, LeavesSchedule}
-use Rattle.ffi.specs.Calls.{Either, refusal, call, Answered}
-use Rattle.ffi.specs.Numbers.{judgedNumber}
+use Rattle.ffi.specs.Calls.{Answered}
+use Rattle.ffi.specs.Replies.{InRange, numberOf, judgeReply}
+use Rattle.ffi.proofs.Ranges.{judge-range}
+use Rattle.ffi.proofs.Replies.{says}
+use Rattle.record.proofs.Decided.{record-refusal}
 
--- What holds of the model that was read holds of the record ..
-pub of-model : {Refusal : ℕ → Type 0} {Call : Model → Type 0} (x : Read Model) {r : Reading} → r ≡ readingOf x
-    → r .answer ≡ Accepted → Call (r .model) → Either Refusal Call x
+-- Reading gave this model, with some bytes left, and it is valid.
+pub record WasRead (bytes : List ℕ) (m : Model) : Type 0 where
+  pub rest : List ℕ
+  pub read : readOf bytes ≡ accepted (m, rest)
+  pub valid : Valid m
+
+-- Reading gave this refusal, and it is in range.
+pub record WasRefused (bytes : List ℕ) (n : ℕ) : Type 0 where
+  pub read : readOf bytes ≡ refused n
+  pub inRange : InRange (reply.refused n)
+
+pub was-read : (bytes : List ℕ) {r : Reading} → (r ≡ readingOf (readOf bytes)) × Keeps r bytes → r .answer ≡ Accepted
+    → WasRead bytes (r .model)
 unfolding readingOf
-of-model (refused n) e a h = absurd (let z : _≡_ {A = ℕ} 0 1 = cc in omega arith)
-of-model {Call = Call} (accepted (m, rest)) e a h = call (subst (λ r. Call (r .model)) e h)
-
--- .. and so does what holds of the refusal's number.
-pub of-refusal : {Refusal : ℕ → Type 0} {Call : Model → Type 0} (x : Read Model) {r : Reading} {n : ℕ} → r ≡ readingOf x
-    → r .answer ≡ Refused n → Refusal n → Either Refusal Call x
-unfolding readingOf
-of-refusal {Refusal} (refused k) {r} {n} e a h = let same : n ≡ k = cc in refusal (subst Refusal same h)
-of-refusal (accepted (m, rest)) e a h = absurd (let z : _≡_ {A = ℕ} 0 1 = cc in omega arith)
-
--- A length that the writer answers is that of a record, so it is small.
-pub short : (m : Model) (size : ℕ) {w : Written} {n : ℕ} → Valid m → w ≡ writtenOf m size → w ≡ written.Length n → n ≤ 649
-unfolding writtenOf
-short m size {w} {n} v e f = omega (arith, at-most m v, go (storeRefusal m (leb (length (recordOf m)) size)) e)
+was-read bytes {r} told a = go (readOf bytes) refl (told .0)
   where
-    go : (k : ℕ) → w ≡ answer (unless k (accepted (length (recordOf m)))) → n ≡ length (recordOf m)
-    go zero h = cc
-    go (suc k) h = absurd (let z : _≡_ {A = ℕ} 0 1 = cc in omega arith)
+    go : (x : Read Model) → readOf bytes ≡ x → r ≡ readingOf x → WasRead bytes (r .model)
+    go (refused n) same e = absurd (let z : _≡_ {A = ℕ} 0 1 = cc in omega arith)
+    go (accepted (m, rest)) same e = record { rest = rest; read = cc; valid = rw a at (told .1) .valid }
 
--- The judge's answer, by the arm that gives its number.
-pub answered : {m : Model} {lines linesAfter schedule scheduleAfter : List ℕ} {j k : Judgement} → j ≡ k
+pub was-refused : (bytes : List ℕ) {r : Reading} {n : ℕ} → (r ≡ readingOf (readOf bytes)) × Keeps r bytes → r .answer ≡ Refused n
+    → WasRefused bytes n
+unfolding readingOf
+was-refused bytes {r} {n} told a = go (readOf bytes) refl (told .0)
+  where
+    go : (x : Read Model) → readOf bytes ≡ x → r ≡ readingOf x → WasRefused bytes n
+    go (refused k) same e =
+        let read : readOf bytes ≡ refused n = cc in
+        let low = record-refusal bytes read in
+        record { read = read; inRange = (omega (arith, low), omega (arith, low)) }
+    go (accepted (m, rest)) same e = absurd (let z : _≡_ {A = ℕ} 0 1 = cc in omega arith)
+
+-- The judge's answer on a valid model, by the arm that gives its number.
+pub answered : {m : Model} {lines linesAfter schedule scheduleAfter : List ℕ} {j k : Judgement} {r : ℕ} → Valid m → j ≡ k
     → Answers m (refusalOf m (length lines) (length schedule)) j × (LeavesLines m j lines linesAfter
     × LeavesSchedule m j schedule scheduleAfter)
-    → Answered m (judgedNumber k) lines linesAfter schedule scheduleAfter
-answered {j = j} e told =
-    record { judgement = j; number = sym (ap judgedNumber e); right = told .0; table = told .1 .0; witness = told .1 .1 }
+    → r ≡ numberOf (judgeReply k) → Answered m r lines linesAfter schedule scheduleAfter
+answered {j = j} v e told number =
+    record {
+      judgement = j;
+      says = says judgeReply (sym e) (judge-range _ _ _ j v (told .0)) number;
+      right = told .0;
+      table = told .1 .0;
+      witness = told .1 .1;
+    }

@@ -4,40 +4,40 @@ use mathlib.Core.Path.{_≡_}
 use Prim.Native.Nat.{ℕ}
 use lib.ListN.{length}
 use Rattle.model.specs.declared.Model.{Model}
-use Rattle.model.specs.Results.{refused, accepted}
+use Rattle.model.specs.Results as result
 use Rattle.record.specs.Reader.{Read, readOf}
 use Rattle.record.specs.Written.{writtenOf, storeOf}
 use Rattle.reach.specs.Answer.{outcomeOf, Leaves}
 use Rattle.replay.specs.Replay.{replayOf}
 use Rattle.judge.specs.declared.Judgement.{Judgement}
 use Rattle.judge.specs.Answer.{refusalOf, Answers, LeavesLines, LeavesSchedule}
-use Rattle.ffi.specs.Numbers.{writtenNumber, linesNumber, judgedNumber, replayedNumber}
+use Rattle.ffi.specs.Replies.{refused, done, Says, writeReply, linesReply, judgeReply, replayReply}
 
 -- What holds by what reading comes to: one thing of a refusal's number, or another of the model.
-pub data Either (Refusal : ℕ → Type 0) (Call : Model → Type 0) : Read Model → Type 0 where
-  refusal : {n : ℕ} → Refusal n → Either Refusal Call (refused n)
-  call : {m : Model} {rest : List ℕ} → Call m → Either Refusal Call (accepted (m, rest))
+abbrev pub Either : (ℕ → Type 0) → (Model → Type 0) → Read Model → Type 0
+Either Refusal Call (result.refused n) = Refusal n
+Either Refusal Call (result.accepted (m, rest)) = Call m
 
--- Reading: 0 for a whole record, else the refusal's number.
+-- Reading: done for a whole record, else the refusal.
 abbrev pub Reads : List ℕ → ℕ → Type 0
-Reads bytes r = Either (λ n. r ≡ n) (λ m. r ≡ 0) (readOf bytes)
+Reads bytes r = Either (λ n. Says r (refused n)) (λ m. Says r done) (readOf bytes)
 
--- Writing the model that was read: the writer's number, with the store as the writer leaves it.
+-- Writing the model that was read: the writer's answer, with the store as the writer leaves it.
 abbrev pub Writes : List ℕ → ℕ → List ℕ → List ℕ → Type 0
 Writes bytes r old new =
-    Either (λ n. (r ≡ n) × (new ≡ old))
-    (λ m. (r ≡ writtenNumber (writtenOf m (length old))) × (new ≡ storeOf m old)) (readOf bytes)
+    Either (λ n. Says r (refused n) × (new ≡ old))
+    (λ m. Says r (writeReply (writtenOf m (length old))) × (new ≡ storeOf m old)) (readOf bytes)
 
--- The line table of the model that was read: the number of what that call answers, with the store as it leaves it.
+-- The line table of the model that was read: what that call answers, with the store as it leaves it.
 abbrev pub Lines : List ℕ → ℕ → List ℕ → List ℕ → Type 0
 Lines bytes r old new =
-    Either (λ n. (r ≡ n) × (new ≡ old))
-    (λ m. (r ≡ linesNumber (outcomeOf m (length old))) × Leaves m (outcomeOf m (length old)) old new) (readOf bytes)
+    Either (λ n. Says r (refused n) × (new ≡ old))
+    (λ m. Says r (linesReply (outcomeOf m (length old))) × Leaves m (outcomeOf m (length old)) old new) (readOf bytes)
 
--- A right judgement on a model, with both stores as it leaves them, and its number.
+-- A right judgement on a model, with both stores as it leaves them, and the number that says it.
 pub record Answered (m : Model) (r : ℕ) (lines linesAfter schedule scheduleAfter : List ℕ) : Type 0 where
   pub judgement : Judgement
-  pub number : r ≡ judgedNumber judgement
+  pub says : Says r (judgeReply judgement)
   pub right : Answers m (refusalOf m (length lines) (length schedule)) judgement
   pub table : LeavesLines m judgement lines linesAfter
   pub witness : LeavesSchedule m judgement schedule scheduleAfter
@@ -45,9 +45,9 @@ pub record Answered (m : Model) (r : ℕ) (lines linesAfter schedule scheduleAft
 -- Judging the model that was read.
 abbrev pub Judges : List ℕ → ℕ → List ℕ → List ℕ → List ℕ → List ℕ → Type 0
 Judges bytes r lines linesAfter schedule scheduleAfter =
-    Either (λ n. (r ≡ n) × (linesAfter ≡ lines) × (scheduleAfter ≡ schedule))
+    Either (λ n. Says r (refused n) × (linesAfter ≡ lines) × (scheduleAfter ≡ schedule))
     (λ m. Answered m r lines linesAfter schedule scheduleAfter) (readOf bytes)
 
--- Replaying a schedule of the model that was read: the number of what replay answers.
+-- Replaying a schedule of the model that was read: what replay answers.
 abbrev pub Replays : List ℕ → List ℕ → ℕ → Type 0
-Replays bytes schedule r = Either (λ n. r ≡ n) (λ m. r ≡ replayedNumber (replayOf m schedule)) (readOf bytes)
+Replays bytes schedule r = Either (λ n. Says r (refused n)) (λ m. Says r (replayReply (replayOf m schedule))) (readOf bytes)

@@ -1,2 +1,2 @@
 pub mod Calls
-pub mod Numbers
+pub mod Replies

@@ -1,12 +1,38 @@
 // The calls for C and Rust: bytes in, a number out, and a record in place of a model. The numbers are defined in specs/.
+ghost use mathlib.Core.Path.{_≡_};
+ghost use Prim.Native.Nat.{_<_};
 ghost use Rattle.ffi.specs.Calls.{Reads, Writes, Lines, Judges, Replays};
+ghost use Rattle.ffi.specs.Replies.{packed};
 use judge::Judgement;
 use reach::Outcome;
 use record::Answer;
 use record::Written;
 use replay::Replayed;
 
-// Reads a record: 0 where it is accepted, else the refusal's number.
+// The kinds of answers: a number's low byte. A refusal's kind is its own number, 1 to 31.
+const DONE: u64 = 0;
+
+const WRITTEN: u64 = 32;
+
+const CLEAR: u64 = 33;
+
+const LONG: u64 = 34;
+
+const FOUND: u64 = 35;
+
+const STOPPED: u64 = 36;
+
+const REACHED: u64 = 37;
+
+// The number of a kind that carries x in its first field.
+fn with_field(kind: u64, x: u64) -> u64
+    requires { ⌜ (kind < 256) × (x < 65536) ⌝ }
+    ensures { λ r. ⌜ r ≡ packed kind x 0 0 ⌝ }
+{
+    kind + 65536 * x
+}
+
+// Reads a record: done where it is accepted.
 #[no_mangle]
 pub extern "C" fn turncheck_read(bytes: &[u8]) -> u64
     ensures { λ r. ⌜ Reads (now (bytes .entry)) r ⌝ }
@@ -14,12 +40,12 @@ pub extern "C" fn turncheck_read(bytes: &[u8]) -> u64
     let reading = record::read(bytes);
     let answer = reading.answer;
     match answer {
-        Answer::Accepted => 0,
+        Answer::Accepted => DONE,
         Answer::Refused(n) => n as u64,
     }
 }
 
-// Reads a record and writes its model's record to the front of the store: 16 and the length, or the refusal's number.
+// Reads a record and writes its model's record to the front of the store: written, with its length.
 #[no_mangle]
 pub extern "C" fn turncheck_write(bytes: &[u8], store: &mut [u8]) -> u64
     ensures { λ r. ⌜ Writes (now (bytes .entry)) r (now (store .entry)) (now (store .exit)) ⌝ }
@@ -28,14 +54,14 @@ pub extern "C" fn turncheck_write(bytes: &[u8], store: &mut [u8]) -> u64
     let answer = reading.answer;
     match answer {
         Answer::Accepted => match record::write(reading.model, store) {
-            Written::Length(n) => 16 + n as u64,
+            Written::Length(n) => with_field(WRITTEN, n as u64),
             Written::Refused(n) => n as u64,
         },
         Answer::Refused(n) => n as u64,
     }
 }
 
-// Reads a record and fills its model's line table: 0, or the refusal's number.
+// Reads a record and fills its model's line table: done.
 #[no_mangle]
 pub extern "C" fn turncheck_lines(bytes: &[u8], lines: &mut [u8]) -> u64
     ensures { λ r. ⌜ Lines (now (bytes .entry)) r (now (lines .entry)) (now (lines .exit)) ⌝ }
@@ -44,14 +70,14 @@ pub extern "C" fn turncheck_lines(bytes: &[u8], lines: &mut [u8]) -> u64
     let answer = reading.answer;
     match answer {
         Answer::Accepted => match reach::lines(reading.model, lines) {
-            Outcome::Done => 0,
+            Outcome::Done => DONE,
             Outcome::Refused(n) => n as u64,
         },
         Answer::Refused(n) => n as u64,
     }
 }
 
-// Reads a record and judges its model: 16 for Clear, 17 for Long, 32 and the steps for Found, or the refusal's number.
+// Reads a record and judges its model: the verdict, Found with its steps.
 #[no_mangle]
 pub extern "C" fn turncheck_judge(bytes: &[u8], lines: &mut [u8], schedule: &mut [u8]) -> u64
     ensures { λ r. ⌜ Judges (now (bytes .entry)) r (now (lines .entry)) (now (lines .exit))
@@ -61,17 +87,16 @@ pub extern "C" fn turncheck_judge(bytes: &[u8], lines: &mut [u8], schedule: &mut
     let answer = reading.answer;
     match answer {
         Answer::Accepted => match judge::judge(reading.model, lines, schedule) {
-            Judgement::Clear => 16,
-            Judgement::Long => 17,
-            Judgement::Found(n) => 32 + n,
+            Judgement::Clear => CLEAR,
+            Judgement::Long => LONG,
+            Judgement::Found(n) => with_field(FOUND, n),
             Judgement::Refused(n) => n as u64,
         },
         Answer::Refused(n) => n as u64,
     }
 }
 
-// Reads a record and replays a schedule of its model: the last shared state with 24 where it is the target, else with 16;
-// or the refusal's number.
+// Reads a record and replays a schedule of its model: the last shared state, by whether it is the target.
 #[no_mangle]
 pub extern "C" fn turncheck_replay(bytes: &[u8], schedule: &[u8]) -> u64
     ensures { λ r. ⌜ Replays (now (bytes .entry)) (now (schedule .entry)) r ⌝ }
@@ -82,9 +107,9 @@ pub extern "C" fn turncheck_replay(bytes: &[u8], schedule: &[u8]) -> u64
         Answer::Accepted => match replay::replay(reading.model, schedule) {
             Replayed::Accepted(shared, reached) => {
                 if reached {
-                    24 + shared.0 as u64
+                    with_field(REACHED, shared.0 as u64)
                 } else {
-                    16 + shared.0 as u64
+                    with_field(STOPPED, shared.0 as u64)
                 }
             }
             Replayed::Refused(n) => n as u64,

@@ -2,7 +2,8 @@
 use borrow.Author.Needs.{needs}
 use mathlib.Core.Path.{refl}
 use native.Mathlib.Omega.{arith}
-use Rattle.ffi.proofs.Records.{of-model, of-refusal, answered}
+use Rattle.ffi.proofs.Records.{was-read, was-refused, answered}
+use Rattle.ffi.proofs.Replies.{alone, says-refused}
 use Rattle.ffi.proofs.turncheck_judge.Statement.{statement}
 use Rattle.ffi.proofs.turncheck_judge.Tie as tie
 
@@ -24,10 +25,10 @@ enum-told-3 c = search needs
 enum-known-n : tie.Need-enum-known-n
 enum-known-n c = search needs
 
-add-result : tie.Need-add-result
-add-result c =
+with-field-requires : tie.Need-with-field-requires
+with-field-requires c κs =
     let told = rw (c .before .n .given .1) at (c .before .before .before .before .before .before .before .judge .ensures .0) in
-    omega (arith, told .1 .0)
+    (omega arith, omega (arith, told .1 .0))
 
 enum-known-n-2 : tie.Need-enum-known-n-2
 enum-known-n-2 c = search needs
@@ -50,8 +51,10 @@ same-length-2 c = search needs
 returns : tie.Need-returns
 returns c =
     let arm = c .before .before .before .before .before .before .before .before .before in
-    of-model _ (arm .before .before .read .ensures .0) (arm .enum-told .given .1)
-    (answered (c .enum-told2 .given .1) (c .before .before .before .before .before .before .judge .ensures))
+    let m = was-read _ (arm .before .before .read .ensures) (arm .enum-told .given .1) in
+    rw (m .read)
+    (answered (m .valid) (c .enum-told2 .given .1)
+    (c .before .before .before .before .before .before .judge .ensures) refl)
 
 same-length-3 : tie.Need-same-length-3
 same-length-3 c = search needs
@@ -62,8 +65,10 @@ same-length-4 c = search needs
 returns-2 : tie.Need-returns-2
 returns-2 c =
     let arm = c .before .before .before .before .before .before .before .before .before in
-    of-model _ (arm .before .before .read .ensures .0) (arm .enum-told .given .1)
-    (answered (c .enum-told3 .given .1) (c .before .before .before .before .before .before .judge .ensures))
+    let m = was-read _ (arm .before .before .read .ensures) (arm .enum-told .given .1) in
+    rw (m .read)
+    (answered (m .valid) (c .enum-told3 .given .1)
+    (c .before .before .before .before .before .before .judge .ensures) refl)
 
 same-length-5 : tie.Need-same-length-5
 same-length-5 c = search needs
@@ -73,9 +78,11 @@ same-length-6 c = search needs
 
 returns-3 : tie.Need-returns-3
 returns-3 c =
-    let arm = c .before .before .before .before .before .before .before .before .before .before in
-    of-model _ (arm .before .before .read .ensures .0) (arm .enum-told .given .1)
-    (answered (c .before .n .given .1) (c .before .before .before .before .before .before .before .judge .ensures))
+    let arm = c .before .before .before .before .before .before .before .before .before .before .before in
+    let m = was-read _ (arm .before .before .read .ensures) (arm .enum-told .given .1) in
+    rw (m .read)
+    (answered (m .valid) (c .before .before .n .given .1)
+    (c .before .before .before .before .before .before .before .before .judge .ensures) (c .with-field .ensures))
 
 same-length-7 : tie.Need-same-length-7
 same-length-7 c = search needs
@@ -86,12 +93,15 @@ same-length-8 c = search needs
 returns-4 : tie.Need-returns-4
 returns-4 c =
     let arm = c .before .before .before .before .before .before .before .before .before .before in
-    of-model _ (arm .before .before .read .ensures .0) (arm .enum-told .given .1)
-    (answered (c .before .n2 .given .1) (c .before .before .before .before .before .before .before .judge .ensures))
+    let m = was-read _ (arm .before .before .read .ensures) (arm .enum-told .given .1) in
+    rw (m .read)
+    (answered (m .valid) (c .before .n2 .given .1)
+    (c .before .before .before .before .before .before .before .judge .ensures) (alone _))
 
 returns-5 : tie.Need-returns-5
 returns-5 c =
-    of-refusal _ (c .before .before .before .read .ensures .0) (c .before .answer .given .1) (refl, refl, refl)
+    let n = was-refused _ (c .before .before .before .read .ensures) (c .before .answer .given .1) in
+    rw (n .read) (says-refused _ (n .inRange), refl, refl)
 
 pub turncheck-judge-spec : {M : Type 1} → statement M
 turncheck-judge-spec =
@@ -103,7 +113,7 @@ turncheck-judge-spec =
     enum-told-2
     enum-told-3
     enum-known-n
-    add-result
+    with-field-requires
     enum-known-n-2
     cast-result
     enum-known-answer

@@ -1,8 +1,10 @@
 -- `turncheck_lines` meets its contract: the number is that of the reader or of the call for the line table.
 use borrow.Author.Needs.{needs}
-use mathlib.Core.Path.{refl, sym, ap, _∙_}
-use Rattle.ffi.specs.Numbers.{linesNumber}
-use Rattle.ffi.proofs.Records.{of-model, of-refusal}
+use mathlib.Core.Path.{refl, sym, _∙_}
+use Rattle.ffi.specs.Replies.{linesReply}
+use Rattle.ffi.proofs.Ranges.{lines-range}
+use Rattle.ffi.proofs.Records.{was-read, was-refused}
+use Rattle.ffi.proofs.Replies.{says, alone, says-refused}
 use Rattle.ffi.proofs.turncheck_lines.Statement.{statement}
 use Rattle.ffi.proofs.turncheck_lines.Tie as tie
 
@@ -36,9 +38,10 @@ same-length c = search needs
 returns : tie.Need-returns
 returns c =
     let arm = c .before .before .before .before .before .before in
+    let m = was-read _ (arm .before .before .read .ensures) (arm .enum-told .given .1) in
     let drew = c .before .before .before .before .lines .ensures in
-    of-model _ (arm .before .before .read .ensures .0) (arm .enum-told .given .1)
-    (ap linesNumber (sym (c .enum-told2 .given .1) ∙ drew .0), rw (drew .0) at (drew .1))
+    rw (m .read)
+    (says linesReply (sym (c .enum-told2 .given .1) ∙ drew .0) (lines-range _ _ (m .valid)) refl, rw (drew .0) at (drew .1))
 
 same-length-2 : tie.Need-same-length-2
 same-length-2 c = search needs
@@ -46,13 +49,15 @@ same-length-2 c = search needs
 returns-2 : tie.Need-returns-2
 returns-2 c =
     let arm = c .before .before .before .before .before .before .before in
+    let m = was-read _ (arm .before .before .read .ensures) (arm .enum-told .given .1) in
     let drew = c .before .before .before .before .before .lines .ensures in
-    of-model _ (arm .before .before .read .ensures .0) (arm .enum-told .given .1)
-    (ap linesNumber (sym (c .before .n .given .1) ∙ drew .0), rw (drew .0) at (drew .1))
+    rw (m .read)
+    (says linesReply (sym (c .before .n .given .1) ∙ drew .0) (lines-range _ _ (m .valid)) (alone _), rw (drew .0) at (drew .1))
 
 returns-3 : tie.Need-returns-3
 returns-3 c =
-    of-refusal _ (c .before .before .before .read .ensures .0) (c .before .answer .given .1) (refl, refl)
+    let n = was-refused _ (c .before .before .before .read .ensures) (c .before .answer .given .1) in
+    rw (n .read) (says-refused _ (n .inRange), refl)
 
 pub turncheck-lines-spec : {M : Type 1} → statement M
 turncheck-lines-spec =

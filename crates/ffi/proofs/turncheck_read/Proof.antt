@@ -1,7 +1,7 @@
 -- `turncheck_read` meets its contract: what reading comes to decides the number.
 use borrow.Author.Needs.{needs}
-use mathlib.Core.Path.{refl}
-use Rattle.ffi.proofs.Records.{of-model, of-refusal}
+use Rattle.ffi.proofs.Records.{was-read, was-refused}
+use Rattle.ffi.proofs.Replies.{says-done, says-refused}
 use Rattle.ffi.proofs.turncheck_read.Statement.{statement}
 use Rattle.ffi.proofs.turncheck_read.Tie as tie
 
@@ -19,11 +19,12 @@ cast-result c = search needs
 
 returns : tie.Need-returns
 returns c =
-    of-model _ (c .before .before .read .ensures .0) (c .enum-told .given .1) refl
+    rw (was-read _ (c .before .before .read .ensures) (c .enum-told .given .1) .read) says-done
 
 returns-2 : tie.Need-returns-2
 returns-2 c =
-    of-refusal _ (c .before .before .before .read .ensures .0) (c .before .answer .given .1) refl
+    let n = was-refused _ (c .before .before .before .read .ensures) (c .before .answer .given .1) in
+    rw (n .read) (says-refused _ (n .inRange))
 
 pub turncheck-read-spec : {M : Type 1} → statement M
 turncheck-read-spec =

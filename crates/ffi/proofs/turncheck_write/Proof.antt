@@ -1,9 +1,11 @@
 -- `turncheck_write` meets its contract: the number is that of the reader or of the writer, whose length is that of a record.
 use borrow.Author.Needs.{needs}
-use mathlib.Core.Path.{refl, sym, ap, _∙_}
+use mathlib.Core.Path.{refl, sym, _∙_}
 use native.Mathlib.Omega.{arith}
-use Rattle.ffi.specs.Numbers.{writtenNumber}
-use Rattle.ffi.proofs.Records.{of-model, of-refusal, short}
+use Rattle.ffi.specs.Replies.{writeReply}
+use Rattle.ffi.proofs.Ranges.{write-range, length-fits}
+use Rattle.ffi.proofs.Records.{was-read, was-refused}
+use Rattle.ffi.proofs.Replies.{says, alone, says-refused}
 use Rattle.ffi.proofs.turncheck_write.Statement.{statement}
 use Rattle.ffi.proofs.turncheck_write.Tie as tie
 
@@ -19,10 +21,12 @@ write-requires c κs = search needs
 enum-known-n : tie.Need-enum-known-n
 enum-known-n c = search needs
 
-add-result : tie.Need-add-result
-add-result c =
-    let kept = rw (c .before .before .before .before .before .before .before .enum-told .given .1) at (c .before .before .before .before .before .before .before .before .before .read .ensures .1) in
-    omega (arith, short _ _ (kept .valid) (c .before .before .before .before .before .write .ensures .0) (c .before .n .given .1))
+with-field-requires : tie.Need-with-field-requires
+with-field-requires c κs =
+    let arm = c .before .before .before .before .before .before .before in
+    let m = was-read _ (arm .before .before .read .ensures) (arm .enum-told .given .1) in
+    let wrote = c .before .before .before .before .before .write .ensures in
+    (omega arith, length-fits _ _ (m .valid) (wrote .0) (c .before .n .given .1))
 
 enum-known-n-2 : tie.Need-enum-known-n-2
 enum-known-n-2 c = search needs
@@ -41,10 +45,11 @@ same-length c = search needs
 
 returns : tie.Need-returns
 returns c =
-    let arm = c .before .before .before .before .before .before .before in
-    let wrote = c .before .before .before .before .before .write .ensures in
-    of-model _ (arm .before .before .read .ensures .0) (arm .enum-told .given .1)
-    (ap writtenNumber (sym (c .before .n .given .1) ∙ wrote .0), wrote .1 .0)
+    let arm = c .before .before .before .before .before .before .before .before in
+    let m = was-read _ (arm .before .before .read .ensures) (arm .enum-told .given .1) in
+    let wrote = c .before .before .before .before .before .before .write .ensures in
+    rw (m .read)
+    (says writeReply (sym (c .before .before .n .given .1) ∙ wrote .0) (write-range _ _ (m .valid)) (c .with-field .ensures), wrote .1 .0)
 
 same-length-2 : tie.Need-same-length-2
 same-length-2 c = search needs
@@ -52,13 +57,15 @@ same-length-2 c = search needs
 returns-2 : tie.Need-returns-2
 returns-2 c =
     let arm = c .before .before .before .before .before .before .before in
+    let m = was-read _ (arm .before .before .read .ensures) (arm .enum-told .given .1) in
     let wrote = c .before .before .before .before .before .write .ensures in
-    of-model _ (arm .before .before .read .ensures .0) (arm .enum-told .given .1)
-    (ap writtenNumber (sym (c .before .n2 .given .1) ∙ wrote .0), wrote .1 .0)
+    rw (m .read)
+    (says writeReply (sym (c .before .n2 .given .1) ∙ wrote .0) (write-range _ _ (m .valid)) (alone _), wrote .1 .0)
 
 returns-3 : tie.Need-returns-3
 returns-3 c =
-    of-refusal _ (c .before .before .before .read .ensures .0) (c .before .answer .given .1) (refl, refl)
+    let n = was-refused _ (c .before .before .before .read .ensures) (c .before .answer .given .1) in
+    rw (n .read) (says-refused _ (n .inRange), refl)
 
 pub turncheck-write-spec : {M : Type 1} → statement M
 turncheck-write-spec =
@@ -68,7 +75,7 @@ turncheck-write-spec =
     enum-told
     write-requires
     enum-known-n
-    add-result
+    with-field-requires
     enum-known-n-2
     cast-result
     enum-known-answer

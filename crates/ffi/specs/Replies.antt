@@ -1,0 +1,90 @@
+-- What a call answers, the number that says it where the call is made from another language, and what that number tells.
+use mathlib.Core.Bool.{cond, true, false}
+use mathlib.Core.Path.{_≡_}
+use Prim.Native.Nat.{ℕ, _+_, _*_, _/_, _%_, _≤_, _<_}
+use lib.Dec.{eqb}
+use Rattle.judge.specs.declared.Judgement.{Judgement}
+use Rattle.judge.specs.declared.Judgement.the-variants as judgement
+use Rattle.reach.specs.declared.Outcome.{Outcome}
+use Rattle.reach.specs.declared.Outcome.the-variants as outcome
+use Rattle.record.specs.declared.Written.{Written}
+use Rattle.record.specs.declared.Written.the-variants as writing
+use Rattle.replay.specs.declared.Replayed.{Replayed}
+use Rattle.replay.specs.declared.Replayed.the-variants as replayed
+
+-- Everything that a call answers: a refusal's number; done; the length of a record that was written; the three verdicts, Found with
+-- its steps; and the last shared state of a replay that stopped elsewhere, or that reached the target.
+pub data Reply : Type 0 where
+  refused : ℕ → Reply
+  done : Reply
+  written : ℕ → Reply
+  clear long : Reply
+  found : ℕ → Reply
+  stopped reached : ℕ → Reply
+
+-- A kind in the low byte, and three fields of 16 bits from bit 16 on.
+abbrev pub packed : ℕ → ℕ → ℕ → ℕ → ℕ
+packed kind x y z = kind + 65536 * (x + 65536 * (y + 65536 * z))
+
+-- The number of a reply: its kind, which is a refusal's own number, 0, or from 32 on, and what it carries in the first field.
+abbrev pub numberOf : Reply → ℕ
+numberOf (refused n) = packed n 0 0 0
+numberOf done = packed 0 0 0 0
+numberOf (written n) = packed 32 n 0 0
+numberOf clear = packed 33 0 0 0
+numberOf long = packed 34 0 0 0
+numberOf (found n) = packed 35 n 0 0
+numberOf (stopped q) = packed 36 q 0 0
+numberOf (reached q) = packed 37 q 0 0
+
+-- The reply of a kind and a first field; a kind that no other reply has is a refusal's number.
+unfoldable pub replyBy : ℕ → ℕ → Reply
+replyBy kind x =
+    cond (eqb kind 0) done
+    (cond (eqb kind 32) (written x)
+    (cond (eqb kind 33) clear
+    (cond (eqb kind 34) long
+    (cond (eqb kind 35) (found x) (cond (eqb kind 36) (stopped x) (cond (eqb kind 37) (reached x) (refused kind)))))))
+
+-- The reply that a number tells, by its low byte and its first field.
+abbrev pub replyOf : ℕ → Reply
+replyOf r = replyBy (r % 256) (r / 65536 % 65536)
+
+-- A reply whose number tells it: refusals are 1 to 31, and what is carried fits in 16 bits.
+abbrev pub InRange : Reply → Type 0
+InRange (refused n) = (1 ≤ n) × (n ≤ 31)
+InRange done = Unit {0}
+InRange (written n) = n < 65536
+InRange clear = Unit {0}
+InRange long = Unit {0}
+InRange (found n) = n < 65536
+InRange (stopped q) = q < 65536
+InRange (reached q) = q < 65536
+
+-- A number says a reply: it is that reply's number, and what it tells is that reply.
+pub record Says (r : ℕ) (a : Reply) : Type 0 where
+  pub number : r ≡ numberOf a
+  pub told : replyOf r ≡ a
+
+-- Of writing a record.
+abbrev pub writeReply : Written → Reply
+writeReply (writing.Length n) = written n
+writeReply (writing.Refused n) = refused n
+
+-- Of filling a line table.
+abbrev pub linesReply : Outcome → Reply
+linesReply outcome.Done = done
+linesReply (outcome.Refused n) = refused n
+
+-- Of judging.
+abbrev pub judgeReply : Judgement → Reply
+judgeReply judgement.Clear = clear
+judgeReply judgement.Long = long
+judgeReply (judgement.Found n) = found n
+judgeReply (judgement.Refused n) = refused n
+
+-- Of replay.
+abbrev pub replayReply : Replayed → Reply
+replayReply (replayed.Accepted shared true) = reached (shared .0)
+replayReply (replayed.Accepted shared false) = stopped (shared .0)
+replayReply (replayed.Refused n) = refused n
