@@ -1,9 +1,9 @@
 // Before anything is timed: both sides must say the same of a model, and each schedule must replay on both.
-use crate::{proved, reference};
+use crate::{numbers, proved, reference};
 
 pub fn agree(record: &[u8]) -> Result<(), String> {
     let read = (proved::read(record), reference::read(record));
-    if read != (0, 0) {
+    if read != (numbers::DONE, numbers::DONE) {
         return Err(format!("read says {} and {}", read.0, read.1));
     }
     let mut stores = [[0; 683]; 4];
@@ -11,19 +11,18 @@ pub fn agree(record: &[u8]) -> Result<(), String> {
     let [a, b, c, d] = &mut stores;
     let [x, y] = &mut schedules;
     let verdict = (proved::judge(record, a, x), reference::judge(record, b, y));
-    if verdict.0 != verdict.1 || verdict.0 < 16 {
+    if verdict.0 != verdict.1 || numbers::kind(verdict.0) < numbers::CLEAR {
         return Err(format!("judge says {} and {}", verdict.0, verdict.1));
     }
     let lines = (proved::lines(record, c), reference::lines(record, d));
-    if lines != (0, 0) || stores.iter().any(|store| *store != stores[0]) {
+    if lines != (numbers::DONE, numbers::DONE) || stores.iter().any(|store| *store != stores[0]) {
         return Err("the line tables differ".to_string());
     }
-    if verdict.0 >= 32 {
-        let steps = verdict.0 as usize - 32;
+    if numbers::kind(verdict.0) == numbers::FOUND {
         for schedule in &schedules {
-            let steps = &schedule[..2 * steps];
+            let steps = &schedule[..2 * numbers::steps(verdict.0)];
             let last = (proved::replay(record, steps), reference::replay(record, steps));
-            if last.0 != last.1 || last.0 < 24 {
+            if last.0 != last.1 || numbers::kind(last.0) != numbers::REACHED {
                 return Err(format!("replay says {} and {}", last.0, last.1));
             }
         }

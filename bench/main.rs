@@ -1,6 +1,7 @@
 // Times the proved library beside an unproved program of the same algorithm, on fixed models, and prints two tables.
 mod compare;
 mod models;
+mod numbers;
 mod proved;
 mod reference;
 
@@ -111,7 +112,7 @@ impl Case {
     fn new(record: &[u8]) -> Case {
         let mut schedule = vec![0; 8190];
         let answer = proved::judge(record, &mut [0; 683], &mut schedule);
-        schedule.truncate(if answer < 32 { 0 } else { 2 * (answer as usize - 32) });
+        schedule.truncate(2 * numbers::steps(answer));
         Case { record: record.to_vec(), schedule }
     }
 }

@@ -1,10 +1,12 @@
 // The yardstick: the same calls by the same algorithm, in plain Rust and with nothing proved. Records in; each call answers the
-// refusal's number, or what its comment says, as the proved library does.
+// number that the proved library answers.
 mod costs;
 mod record;
 mod table;
 mod walk;
 mod witness;
+
+use crate::numbers::{packed, CLEAR, DONE, FOUND, LONG, REACHED, STOPPED};
 
 #[derive(Clone, Copy)]
 pub enum Right {
@@ -35,15 +37,14 @@ pub struct Model {
     pub b: Thread,
 }
 
-// 0 where the record is accepted.
 pub fn read(record: &[u8]) -> u64 {
     match record::read(record) {
-        Ok(_) => 0,
+        Ok(_) => DONE,
         Err(number) => number,
     }
 }
 
-// 0 where the line table is at the front of the store.
+// The line table goes to the front of the store.
 pub fn lines(record: &[u8], store: &mut [u8]) -> u64 {
     let model = match record::read(record) {
         Ok(model) => model,
@@ -54,10 +55,10 @@ pub fn lines(record: &[u8], store: &mut [u8]) -> u64 {
     }
     let (a, b) = costs::both(&model);
     draw(&model, &a, &b, store);
-    0
+    DONE
 }
 
-// 16 for Clear, 17 for Long, 32 + n for Found in n steps.
+// The same, and a shortest schedule at the front of its store.
 pub fn judge(record: &[u8], store: &mut [u8], schedule: &mut [u8]) -> u64 {
     let model = match record::read(record) {
         Ok(model) => model,
@@ -70,24 +71,23 @@ pub fn judge(record: &[u8], store: &mut [u8], schedule: &mut [u8]) -> u64 {
     draw(&model, &a, &b, store);
     let (steps, line) = choose(&model, &a, &b);
     if steps > table::LONG {
-        return 16;
+        return CLEAR;
     }
     if steps == table::LONG {
-        return 17;
+        return LONG;
     }
     witness::write(&model, line, a[line], b[line], schedule);
-    32 + steps
+    packed(FOUND, steps)
 }
 
-// 16 + the last state, 24 + it where it is the target.
 pub fn replay(record: &[u8], schedule: &[u8]) -> u64 {
     let model = match record::read(record) {
         Ok(model) => model,
         Err(number) => return number,
     };
     match walk::walk(&model, schedule) {
-        Ok(last) if last == model.target => 24 + last as u64,
-        Ok(last) => 16 + last as u64,
+        Ok(last) if last == model.target => packed(REACHED, last as u64),
+        Ok(last) => packed(STOPPED, last as u64),
         Err(number) => number,
     }
 }

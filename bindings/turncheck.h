@@ -1,7 +1,9 @@
 /* turncheck: a proved checker for races between two threads with stacks, as it is called from C.
  *
- * Each call takes the bytes of a model record and answers a number. A number from 1 to 10 says why the call refuses (enum
- * turncheck_refusal); a call that refuses changes no byte of any store. Nothing else is asked of the bytes: any are taken.
+ * Each call takes the bytes of a model record and answers a number. The number's kind, TURNCHECK_KIND, says what is answered: why
+ * the call refuses (enum turncheck_refusal, 1 to 31), or what it found (enum turncheck_kind). A count or a state that belongs to the
+ * answer stands above the kind, and a macro takes it out. A call that refuses changes no byte of any store. Nothing else is asked of
+ * the bytes: any are taken.
  *
  * Each slice is a pointer and a length. The pointer is never NULL, even where the length is 0. While a call runs, nothing else
  * writes to its slices, and no store overlaps another slice of the same call. A call keeps no pointer, allocates nothing and has
@@ -24,34 +26,48 @@ extern "C" {
 #define TURNCHECK_LINES_BYTES 683     /* the largest line table: 5,460 bits, of a model with G = 4 and K = 3 */
 #define TURNCHECK_SCHEDULE_BYTES 8190 /* the longest schedule: 4,095 steps; what turncheck_judge asks for */
 
-/* Why a call refuses. The first fault of a record counts, from left to right. */
+/* Why a call refuses. The first fault of a record counts, from left to right. Numbers to 31 are kept for later refusals. */
 enum turncheck_refusal {
-    TURNCHECK_REFUSED_SHORT = 1,    /* the record ends before or inside a field or rule */
-    TURNCHECK_REFUSED_TARGET = 2,   /* the record has no target */
-    TURNCHECK_REFUSED_HEAD = 3,     /* a head field is out of its range */
-    TURNCHECK_REFUSED_RULES = 4,    /* a rule count, or a rule's map, state or symbol, is out of its range */
-    TURNCHECK_REFUSED_IDLE = 5,     /* a field says what its absence would */
-    TURNCHECK_REFUSED_LEFT = 6,     /* bytes are left after the last field */
-    TURNCHECK_REFUSED_STORE = 7,    /* a store is too small */
-    TURNCHECK_REFUSED_SCHEDULE = 8, /* the schedule's length is odd or above 8,190 bytes */
-    TURNCHECK_REFUSED_TURN = 9,     /* a step's turn is not one of the 2K, or below that of the step before */
-    TURNCHECK_REFUSED_RULE = 10     /* a step's rule is not in the list, or does not apply */
+    TURNCHECK_REFUSED_TRUNCATED = 1,       /* the record ends before or inside a field or rule */
+    TURNCHECK_REFUSED_NO_TARGET = 2,       /* the record has no target */
+    TURNCHECK_REFUSED_HEAD_RANGE = 3,      /* a head field is out of its range */
+    TURNCHECK_REFUSED_RULE_RANGE = 4,      /* a rule count, or a rule's map, state or symbol, is out of its range */
+    TURNCHECK_REFUSED_REDUNDANT = 5,       /* a field says what its absence would */
+    TURNCHECK_REFUSED_TRAILING = 6,        /* bytes are left after the last field */
+    TURNCHECK_REFUSED_STORE_TOO_SMALL = 7, /* a store is too small */
+    TURNCHECK_REFUSED_SCHEDULE_SIZE = 8,   /* the schedule's length is odd or above 8,190 bytes */
+    TURNCHECK_REFUSED_STEP_TURN = 9,       /* a step's turn is not one of the 2K, or below that of the step before */
+    TURNCHECK_REFUSED_STEP_RULE = 10       /* a step's rule is not in the list, or does not apply */
 };
 
 /* What a call answers where it does not refuse. */
-#define TURNCHECK_DONE 0    /* turncheck_read: accepted; turncheck_lines: the table is filled */
-#define TURNCHECK_LENGTH 16 /* turncheck_write: 16 and the record's length */
-#define TURNCHECK_CLEAR 16  /* turncheck_judge: no run reaches the target */
-#define TURNCHECK_LONG 17   /* turncheck_judge: some run does, and each that does has more than 4,095 steps */
-#define TURNCHECK_FOUND 32  /* turncheck_judge: 32 and the number of steps of a shortest run that does, 0 to 4,095 */
-#define TURNCHECK_STATE 16  /* turncheck_replay: 16 and the last shared state, 0 to 3, which is not the target */
-#define TURNCHECK_TARGET 24 /* turncheck_replay: 24 and the last shared state, which is the target */
+enum turncheck_kind {
+    TURNCHECK_DONE = 0,     /* turncheck_read: accepted; turncheck_lines: the table is filled */
+    TURNCHECK_WRITTEN = 32, /* turncheck_write: TURNCHECK_LENGTH bytes were written */
+    TURNCHECK_CLEAR = 33,   /* turncheck_judge: no run reaches the target */
+    TURNCHECK_LONG = 34,    /* turncheck_judge: some run does, and each that does has more than 4,095 steps */
+    TURNCHECK_FOUND = 35,   /* turncheck_judge: some run does, and a shortest that does has TURNCHECK_STEPS steps */
+    TURNCHECK_STOPPED = 36, /* turncheck_replay: the last shared state is TURNCHECK_STATE, which is not the target */
+    TURNCHECK_REACHED = 37  /* turncheck_replay: the last shared state is TURNCHECK_STATE, which is the target */
+};
+
+/* The parts of a number: its kind in bits 0 to 7, and fields of 16 bits, the first in bits 16 to 31. Other bits are 0. */
+#define TURNCHECK_KIND(number) ((unsigned)((number)&0xFF))
+#define TURNCHECK_FIELD1(number) ((unsigned)((number) >> 16 & 0xFFFF))
+
+/* Whether a call refused. TURNCHECK_KIND then says why. */
+#define TURNCHECK_IS_REFUSED(number) (TURNCHECK_KIND(number) >= 1 && TURNCHECK_KIND(number) <= 31)
+
+/* What a number of the right kind carries. */
+#define TURNCHECK_LENGTH(number) TURNCHECK_FIELD1(number) /* TURNCHECK_WRITTEN: the record's length, at most 649 */
+#define TURNCHECK_STEPS(number) TURNCHECK_FIELD1(number)  /* TURNCHECK_FOUND: steps, at most 4,095 */
+#define TURNCHECK_STATE(number) TURNCHECK_FIELD1(number)  /* TURNCHECK_STOPPED, TURNCHECK_REACHED: a state, at most 3 */
 
 /* Reads a record: TURNCHECK_DONE, or refusal 1 to 6. */
 uint64_t turncheck_read(const uint8_t *record, size_t record_size);
 
 /* Reads a record and writes its model again, to the front of the store; the bytes beyond keep their value. The bytes are those of
- * the record. Answers TURNCHECK_LENGTH and how many they are, or refusal 1 to 7. */
+ * the record. Answers TURNCHECK_WRITTEN with how many they are, or refusal 1 to 7. */
 uint64_t turncheck_write(const uint8_t *record, size_t record_size, uint8_t *store, size_t store_size);
 
 /* Fills the line table of a record's model: bit p, in byte p div 8, lowest bit first, stands exactly if some run ends its turns
@@ -59,15 +75,15 @@ uint64_t turncheck_write(const uint8_t *record, size_t record_size, uint8_t *sto
  * Answers TURNCHECK_DONE, or refusal 1 to 7. */
 uint64_t turncheck_lines(const uint8_t *record, size_t record_size, uint8_t *lines, size_t lines_size);
 
-/* Judges a record's model: TURNCHECK_CLEAR, TURNCHECK_LONG, or TURNCHECK_FOUND and the number of steps; or refusal 1 to 7.
+/* Judges a record's model: TURNCHECK_CLEAR, TURNCHECK_LONG, or TURNCHECK_FOUND with the number of steps; or refusal 1 to 7.
  * Each verdict fills the line table as turncheck_lines does. Found writes a shortest schedule to the front of the schedule store,
  * two bytes a step: the turn, and the rule's number in its thread's list, from 0. All other bytes keep their value. The schedule
  * store has at least TURNCHECK_SCHEDULE_BYTES, whatever the verdict. */
 uint64_t turncheck_judge(const uint8_t *record, size_t record_size, uint8_t *lines, size_t lines_size, uint8_t *schedule,
                          size_t schedule_size);
 
-/* Walks a schedule of a record's model from its start: TURNCHECK_STATE or TURNCHECK_TARGET and the last shared state, or
- * refusal 1 to 6 or 8 to 10. */
+/* Walks a schedule of a record's model from its start: TURNCHECK_STOPPED or TURNCHECK_REACHED with the last shared state,
+ * or refusal 1 to 6 or 8 to 10. */
 uint64_t turncheck_replay(const uint8_t *record, size_t record_size, const uint8_t *schedule, size_t schedule_size);
 
 #ifdef __cplusplus

@@ -99,26 +99,18 @@ static int holds(const struct bytes *store, const char *word) {
     return begins(store, &expected);
 }
 
-/* The answer of a call in words. */
-static void tell(const char *which, uint64_t n, char *words, size_t size) {
-    if (n >= 1 && n < 16)
-        snprintf(words, size, "refused:%" PRIu64, n);
-    else if (strcmp(which, "read") == 0 && n == TURNCHECK_DONE)
-        snprintf(words, size, "accepted");
-    else if (strcmp(which, "lines") == 0 && n == TURNCHECK_DONE)
-        snprintf(words, size, "done");
-    else if (strcmp(which, "write") == 0)
-        snprintf(words, size, "length:%" PRIu64, n - TURNCHECK_LENGTH);
-    else if (strcmp(which, "judge") == 0 && n == TURNCHECK_CLEAR)
-        snprintf(words, size, "clear");
-    else if (strcmp(which, "judge") == 0 && n == TURNCHECK_LONG)
-        snprintf(words, size, "long");
-    else if (strcmp(which, "judge") == 0 && n >= TURNCHECK_FOUND)
-        snprintf(words, size, "found:%" PRIu64, n - TURNCHECK_FOUND);
-    else if (strcmp(which, "replay") == 0 && n >= TURNCHECK_TARGET)
-        snprintf(words, size, "target:%" PRIu64, n - TURNCHECK_TARGET);
-    else if (strcmp(which, "replay") == 0)
-        snprintf(words, size, "state:%" PRIu64, n - TURNCHECK_STATE);
+/* An answer in words, by the number's kind. */
+static void tell(uint64_t n, int read, char *words, size_t size) {
+    static const char *const names[] = {"length", "clear", "long", "found", "state", "target"};
+    unsigned kind = TURNCHECK_KIND(n), field = TURNCHECK_FIELD1(n);
+    if (n == TURNCHECK_DONE)
+        snprintf(words, size, read ? "accepted" : "done");
+    else if (TURNCHECK_IS_REFUSED(n) && n == kind)
+        snprintf(words, size, "refused:%u", kind);
+    else if ((kind == TURNCHECK_CLEAR || kind == TURNCHECK_LONG) && n == kind)
+        snprintf(words, size, "%s", names[kind - TURNCHECK_WRITTEN]);
+    else if (kind >= TURNCHECK_WRITTEN && kind <= TURNCHECK_REACHED && n == ((uint64_t)field << 16 | kind))
+        snprintf(words, size, "%s:%u", names[kind - TURNCHECK_WRITTEN], field);
     else
         snprintf(words, size, "number:%" PRIu64, n);
 }
@@ -131,9 +123,10 @@ static int judged(uint64_t verdict, size_t stack) {
     lend(first.size, &first);
     if (on_thread("lines", stack) != TURNCHECK_DONE || memcmp(first.at, table.at, MOST) != 0) return 0;
     first = found;
-    first.size = verdict < TURNCHECK_FOUND ? 0 : 2 * (size_t)(verdict - TURNCHECK_FOUND);
+    int is_found = TURNCHECK_KIND(verdict) == TURNCHECK_FOUND;
+    first.size = is_found ? 2 * (size_t)TURNCHECK_STEPS(verdict) : 0;
     if (!begins(&found, &first)) return 0;
-    return verdict < TURNCHECK_FOUND || on_thread("replay", stack) >= TURNCHECK_TARGET;
+    return !is_found || TURNCHECK_KIND(on_thread("replay", stack)) == TURNCHECK_REACHED;
 }
 
 /* One case, by its words: the call, what is lent beside the record, the answer, what the stores then hold. */
@@ -146,11 +139,11 @@ static int agrees(char **word, size_t stack) {
     if (stores > 0) lend(size_of(word[1]), &first);
     if (stores > 1) lend(size_of(word[2]), &second);
     uint64_t n = on_thread(word[0], stack);
-    tell(word[0], n, words, sizeof words);
+    tell(n, strcmp(word[0], "read") == 0, words, sizeof words);
     if (*wanted == NULL || strcmp(words, *wanted) != 0) return 0;
     if (stores > 0 && !holds(&first, wanted[1])) return 0;
     if (stores > 1 && !holds(&second, wanted[2])) return 0;
-    return !judge || n < TURNCHECK_CLEAR || judged(n, stack);
+    return !judge || TURNCHECK_IS_REFUSED(n) || judged(n, stack);
 }
 
 int main(int count, char **arguments) {

@@ -14,25 +14,25 @@ pub const SCHEDULE_BYTES: usize = 8190;
 #[derive(Clone, Copy, Debug, PartialEq, Eq)]
 pub enum Refusal {
     /// The record ends before or inside a field or rule.
-    Short = 1,
+    Truncated = 1,
     /// The record has no target.
-    Target = 2,
+    NoTarget = 2,
     /// A head field is out of its range.
-    Head = 3,
+    HeadRange = 3,
     /// A rule count, or a rule's map, state or symbol, is out of its range.
-    Rules = 4,
+    RuleRange = 4,
     /// A field says what its absence would.
-    Idle = 5,
+    Redundant = 5,
     /// Bytes are left after the last field.
-    Left = 6,
+    Trailing = 6,
     /// A store is too small.
-    Store = 7,
+    StoreTooSmall = 7,
     /// The schedule's length is odd or above 8,190 bytes.
-    Schedule = 8,
+    ScheduleSize = 8,
     /// A step's turn is not one of the 2K, or below that of the step before.
-    Turn = 9,
+    StepTurn = 9,
     /// A step's rule is not in the list, or does not apply.
-    Rule = 10,
+    StepRule = 10,
 }
 
 /// A verdict on a model.
@@ -49,7 +49,7 @@ pub enum Verdict {
 /// Where a schedule ends.
 #[derive(Clone, Copy, Debug, PartialEq, Eq)]
 pub struct Last {
-    pub state: u8,
+    pub state: u16,
     pub target: bool,
 }
 
@@ -68,48 +68,71 @@ extern "C" {
     fn turncheck_replay(record: *const u8, record_size: usize, schedule: *const u8, schedule_size: usize) -> u64;
 }
 
-/// The refusal that a number says, or the number itself.
-fn unless_refused(number: u64) -> Result<u64, Refusal> {
-    Err(match number {
-        1 => Refusal::Short,
-        2 => Refusal::Target,
-        3 => Refusal::Head,
-        4 => Refusal::Rules,
-        5 => Refusal::Idle,
-        6 => Refusal::Left,
-        7 => Refusal::Store,
-        8 => Refusal::Schedule,
-        9 => Refusal::Turn,
-        10 => Refusal::Rule,
-        other => return Ok(other),
-    })
+/// The kinds of answers that are no refusals: the low byte of a number.
+const DONE: u16 = 0;
+const WRITTEN: u16 = 32;
+const CLEAR: u16 = 33;
+const LONG: u16 = 34;
+const FOUND: u16 = 35;
+const STOPPED: u16 = 36;
+const REACHED: u16 = 37;
+
+/// A number's kind, whose upper byte is 0, and the three fields above it.
+fn parts(number: u64) -> [u16; 4] {
+    [0, 16, 32, 48].map(|bits| (number >> bits) as u16)
+}
+
+/// The refusal that a number says. Panics on a number that this wrapper does not know: the library is of another version.
+fn refusal(number: u64) -> Refusal {
+    match number {
+        1 => Refusal::Truncated,
+        2 => Refusal::NoTarget,
+        3 => Refusal::HeadRange,
+        4 => Refusal::RuleRange,
+        5 => Refusal::Redundant,
+        6 => Refusal::Trailing,
+        7 => Refusal::StoreTooSmall,
+        8 => Refusal::ScheduleSize,
+        9 => Refusal::StepTurn,
+        10 => Refusal::StepRule,
+        _ => panic!("turncheck: the library answers {number:#x}, which this wrapper does not know"),
+    }
 }
 
 /// Reads a record.
 pub fn read(record: &[u8]) -> Result<(), Refusal> {
     // SAFETY: here and below, each pointer and length are those of one slice that is borrowed for the call.
-    unless_refused(unsafe { turncheck_read(record.as_ptr(), record.len()) })?;
-    Ok(())
+    let number = unsafe { turncheck_read(record.as_ptr(), record.len()) };
+    match parts(number) {
+        [DONE, 0, 0, 0] => Ok(()),
+        _ => Err(refusal(number)),
+    }
 }
 
 /// Reads a record and writes its model again, to the front of the store; the bytes beyond keep their value. Answers how many bytes
 /// were written.
 pub fn write(record: &[u8], store: &mut [u8]) -> Result<usize, Refusal> {
-    let number = unless_refused(unsafe { turncheck_write(record.as_ptr(), record.len(), store.as_mut_ptr(), store.len()) })?;
-    Ok((number - 16) as usize)
+    let number = unsafe { turncheck_write(record.as_ptr(), record.len(), store.as_mut_ptr(), store.len()) };
+    match parts(number) {
+        [WRITTEN, length, 0, 0] => Ok(length.into()),
+        _ => Err(refusal(number)),
+    }
 }
 
 /// Fills the line table of a record's model: bit p, in byte p div 8, lowest bit first, stands exactly if some run ends its turns
 /// along the line at place p. Spare bits of the table's last byte are 0; the bytes beyond keep their value.
 pub fn lines(record: &[u8], lines: &mut [u8]) -> Result<(), Refusal> {
-    unless_refused(unsafe { turncheck_lines(record.as_ptr(), record.len(), lines.as_mut_ptr(), lines.len()) })?;
-    Ok(())
+    let number = unsafe { turncheck_lines(record.as_ptr(), record.len(), lines.as_mut_ptr(), lines.len()) };
+    match parts(number) {
+        [DONE, 0, 0, 0] => Ok(()),
+        _ => Err(refusal(number)),
+    }
 }
 
 /// Judges a record's model. Each verdict fills the line table as `lines` does. Found writes a shortest schedule to the front of the
 /// schedule store, two bytes a step: the turn, and the rule's number in its thread's list, from 0. All other bytes keep their value.
 pub fn judge(record: &[u8], lines: &mut [u8], schedule: &mut [u8]) -> Result<Verdict, Refusal> {
-    let number = unless_refused(unsafe {
+    let number = unsafe {
         turncheck_judge(
             record.as_ptr(),
             record.len(),
@@ -118,19 +141,21 @@ pub fn judge(record: &[u8], lines: &mut [u8], schedule: &mut [u8]) -> Result<Ver
             schedule.as_mut_ptr(),
             schedule.len(),
         )
-    })?;
-    Ok(match number {
-        16 => Verdict::Clear,
-        17 => Verdict::Long,
-        found => Verdict::Found((found - 32) as usize),
-    })
+    };
+    match parts(number) {
+        [CLEAR, 0, 0, 0] => Ok(Verdict::Clear),
+        [LONG, 0, 0, 0] => Ok(Verdict::Long),
+        [FOUND, steps, 0, 0] => Ok(Verdict::Found(steps.into())),
+        _ => Err(refusal(number)),
+    }
 }
 
 /// Walks a schedule of a record's model from its start.
 pub fn replay(record: &[u8], schedule: &[u8]) -> Result<Last, Refusal> {
-    let number =
-        unless_refused(unsafe { turncheck_replay(record.as_ptr(), record.len(), schedule.as_ptr(), schedule.len()) })?;
-    let target = number >= 24;
-    let base = if target { 24 } else { 16 };
-    Ok(Last { state: (number - base) as u8, target })
+    let number = unsafe { turncheck_replay(record.as_ptr(), record.len(), schedule.as_ptr(), schedule.len()) };
+    match parts(number) {
+        [STOPPED, state, 0, 0] => Ok(Last { state, target: false }),
+        [REACHED, state, 0, 0] => Ok(Last { state, target: true }),
+        _ => Err(refusal(number)),
+    }
 }

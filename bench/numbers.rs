@@ -1,0 +1,24 @@
+// The numbers that the calls answer: a kind in the low byte, and what it carries from bit 16 on. A refusal's kind is its own number.
+pub const DONE: u64 = 0;
+pub const CLEAR: u64 = 33;
+pub const LONG: u64 = 34;
+pub const FOUND: u64 = 35;
+pub const STOPPED: u64 = 36;
+pub const REACHED: u64 = 37;
+
+pub fn packed(kind: u64, carried: u64) -> u64 {
+    kind | carried << 16
+}
+
+pub fn kind(number: u64) -> u64 {
+    number & 0xFF
+}
+
+// How many steps a schedule has that a judgement wrote: none, unless it is Found.
+pub fn steps(number: u64) -> usize {
+    if kind(number) == FOUND {
+        (number >> 16) as usize
+    } else {
+        0
+    }
+}
