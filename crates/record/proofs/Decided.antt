@@ -3,7 +3,7 @@
 use mathlib.Core.Bool.{Bool, true, false, not}
 use mathlib.Core.List.{List, [], _∷_}
 use mathlib.Core.Path.{_≡_, refl}
-use Prim.Native.Nat.{ℕ, zero, suc, _*_, _/_, zero-le}
+use Prim.Native.Nat.{ℕ, zero, suc, _*_, _/_, _≤_, zero-le}
 use native.Mathlib.Decide.{decLt}
 use native.Mathlib.Omega.{arith}
 use lib.Dec.{ltb, eqb}
@@ -89,7 +89,7 @@ front =
     chained (rules (bit 7 (h .map)) (h .g)) λ bs rb rest e. none _
 
 -- The refusal of a whole record.
-pub record-refusal : (bs : List ℕ) {n : ℕ} → readOf bs ≡ refused n → Low n
+pub record-refusal : (bs : List ℕ) {n : ℕ} → readOf bs ≡ refused n → (1 ≤ n) × (n ≤ 6)
 unfolding readOf
 record-refusal bs {n} = go (parseFront bs) (front .takes bs)
   where
