@@ -1,19 +1,18 @@
--- The line at a place, and its full line, by values: a state more multiplies by g, and the last state of a value is its rest by g.
+-- The line of a place, and its full line, by values: a state more multiplies by g, and the last state of a value is its rest by g.
 use mathlib.Core.Path.{_≡_, ap, sym, _∙_}
 use mathlib.Core.Logic.{⊎-elim}
 use mathlib.Core.List.{List, [], _∷_, _++_, append-nil, append-assoc}
-use Prim.Native.Nat.{ℕ, zero, suc, _+_, _-_, _*_, _/_, _%_, _^_, _<_, _≤_}
+use Prim.Native.Nat.{ℕ, zero, suc, _+_, _-_, _*_, _/_, _%_, _^_, _<_, _≤_, pred}
 use native.Mathlib.Nat.{pow-zero, pow-suc, pow-succ', pow-le-pow-right, le-trans, eq-or-lt-of-le, one-mul}
 use native.Mathlib.Nat.{add-mul, mul-assoc, add-assoc, mul-le-mul, mod-lt, mod-eq-of-lt, div-one, mod-mod-of-dvd, dvd-mul-right}
 use native.Mathlib.Numerals.{add-one}
 use native.Mathlib.Omega.{arith}
 use lib.Arith.{digits-lt}
 use lib.ListN.{length, replicate, length-append, replicate-append-replicate}
-use Rattle.model.specs.Lines.{powers, bits, lastOf, value, position, digits}
+use Rattle.model.specs.Lines.{powers, bits, lastOf, value, digits}
 use Rattle.model.proofs.Positions.{length-digits, value-digits, digits-line, digits-position}
 use Rattle.costs.proofs.Digits.{power-small}
-use Rattle.draw.specs.Full.{lineAt, padded}
-use Rattle.draw.proofs.Places.{line-at-position}
+use Rattle.draw.specs.Marks.{padded, FullAt}
 
 -- A further factor fits.
 pub product-small : {v g : ℕ} → v ≤ 4096 → g ≤ 4 → v * g ≤ 16384
@@ -42,12 +41,6 @@ last-digit g (suc n) v x p h =
 pub last-digits : (g n v x : ℕ) → 0 < g → 0 < n → v < g ^ n → lastOf x (digits g n v) ≡ v % g
 last-digits g zero v x p l h = absurd (omega arith)
 last-digits g (suc n) v x p l h = last-digit g n v x p h
-
--- The line at a place that is `rest` places after the lines of up to n states.
-line-of : (g k n rest p : ℕ) → n < 2 * k → rest < g ^ suc n → powers g n + rest ≡ p → lineAt g k p ≡ digits g (suc n) rest
-line-of g k n rest p h b e =
-    let place : position g (digits g (suc n) rest) ≡ p = digits-position g (suc n) rest b ∙ e in
-    rw place at (line-at-position (digits-line {k = k} (omega arith) h b))
 
 -- On the way to the line at place p: the lines of up to n states are passed, `rest` of the place is left, and there are `power`
 -- lines of one state more.
@@ -80,11 +73,21 @@ reached-steps {g} {k} {p} {rest} {n} {power} h l d =
 pub reached-small : {g k p rest n power : ℕ} → g ≤ 4 → k ≤ 3 → Reached g k p rest n power → power ≤ 4096
 reached-small {n = n} h l d = omega (arith, d .size, power-small {n = suc n} h (omega (arith, d .inside)))
 
-pub reached-ends : {g k p rest n power : ℕ} → rest < power → Reached g k p rest n power
-    → (rest < g ^ (n + 1)) × (lineAt g k p ≡ digits g (n + 1) rest)
-reached-ends {g} {k} {p} {rest} {n} h d =
-    let b : rest < g ^ suc n = omega (arith, d .size) in
-    rw add-one (b, line-of g k n rest p (d .inside) b (d .place))
+pub reached-ends : {g k p rest n power : ℕ} → rest < power → Reached g k p rest n power → rest < g ^ (n + 1)
+reached-ends h d = rw add-one (omega (arith, d .size))
+
+-- The line there has n + 1 states, and `rest` is its value.
+pub reached-full : {g k p rest n power v : ℕ} → rest < power → Reached g k p rest n power
+    → v ≡ value g (padded k (digits g (n + 1) rest)) → FullAt g k p v
+reached-full {g} {k} {rest = rest} {n} h d e =
+    let low = reached-ends h d in
+    let before : powers g (pred (n + 1)) ≡ powers g n = rw add-one in
+    record {
+      line = digits g (n + 1) rest;
+      sound = digits-line (omega arith) (omega (arith, d .inside)) low;
+      place = digits-position g (n + 1) rest low ∙ rw before (d .place);
+      full = e;
+    }
 
 -- The line of n states with the value w, and its last state repeated up to i states, has the value v.
 pub record Padding (g n w i v : ℕ) : Type 0 where

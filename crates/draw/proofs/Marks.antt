@@ -17,7 +17,7 @@ use Rattle.model.proofs.Turns.{marked-padded}
 use Rattle.costs.specs.Cost.{ViewCost, Costs, BothCosts}
 use Rattle.costs.proofs.Along.{view-cost}
 use Rattle.costs.proofs.Views.{marked-views}
-use Rattle.draw.specs.Full.{padded}
+use Rattle.draw.specs.Marks.{padded}
 
 -- A line is marked exactly if both costs are reached.
 marked-costs : (m : Model) (line : List ℕ) {a b : ℕ}

@@ -1,65 +1,58 @@
 -- A byte put together from its highest bit down: each bit doubles what there is.
-use mathlib.Core.Bool.{Bool, true, false}
-use mathlib.Core.Path.{_≡_, refl}
+use mathlib.Core.Logic.{_↔_}
 use Prim.Native.Nat.{ℕ, zero, suc, _+_, _-_, _*_, _/_, _%_, _^_, _<_, _≤_}
-use native.Mathlib.Nat.{add-zero, add-suc, suc-add, pow-zero, pow-succ', pow-le-pow-right, div-one, div-div-eq-div-mul}
+use mathlib.Core.Path.{_≡_}
+use native.Mathlib.Nat.{pow-zero, pow-succ', pow-le-pow-right, div-one, div-div-eq-div-mul}
 use native.Mathlib.Numerals.{add-one}
 use native.Mathlib.Omega.{arith}
-use lib.Dec.{eqb}
-use Rattle.model.specs.Bits.{bit, oneIf}
-use Rattle.draw.specs.Marks.{Packs}
-
--- The number of n marks from place p on, lowest bit first.
-abbrev packed : (ℕ → Bool) → ℕ → ℕ → ℕ
-packed f p zero = 0
-packed f p (suc n) = 2 * packed f (suc p) n + oneIf (f p)
+use lib.Dec.{T}
+use Rattle.model.specs.Bits.{bit}
+use Rattle.draw.specs.Marks.{BitOf, set, unset, Packs}
 
 -- A bit is 0 or 1.
-bit-small : (b : Bool) → oneIf b ≤ 1
-bit-small true = omega arith
-bit-small false = omega arith
+pub bit-small : {Mark : Type 0} {r : ℕ} → BitOf Mark r → r ≤ 1
+bit-small (set h) = omega arith
+bit-small (unset h) = omega arith
 
--- The lowest bit, and the others.
-lowest : (r : ℕ) (b : Bool) → eqb ((2 * r + oneIf b) % 2) 1 ≡ b
-lowest r true = let e : (2 * r + 1) % 2 ≡ 1 = omega arith in rw e
-lowest r false = let e : (2 * r + 0) % 2 ≡ 0 = omega arith in rw e
+-- The lowest bit of what is put together says whether the last mark stands ..
+lowest : {Mark : Type 0} {r : ℕ} (byte : ℕ) → BitOf Mark r → T (bit 0 (2 * byte + r)) ↔ Mark
+lowest byte (set h) = let e : (2 * byte + 1) % 2 ≡ 1 = omega arith in (λ t. h, λ m. rw (pow-zero, div-one, e) tt)
+lowest byte (unset h) =
+    let e : (2 * byte + 0) % 2 ≡ 0 = omega arith in (λ t. absurd (rw (pow-zero, div-one, e) at t), λ m. absurd (h m))
 
-others : (r x : ℕ) → x ≤ 1 → (2 * r + x) / 2 ≡ r
-others r x h = omega arith
+-- .. and each other one is the one below it of what there was.
+halved : (byte r : ℕ) → r ≤ 1 → (2 * byte + r) / 2 ≡ byte
+halved byte r h = omega arith
 
--- Bit j of the number is mark j.
-bit-packed : (f : ℕ → Bool) (n p j : ℕ) → j < n → bit j (packed f p n) ≡ f (p + j)
-bit-packed f zero p j h = absurd (omega arith)
-bit-packed f (suc n) p zero h = rw (pow-zero, div-one, add-zero) (lowest (packed f (suc p) n) (f p))
-bit-packed f (suc n) p (suc j) h =
-    rw (pow-succ', ← div-div-eq-div-mul, others (packed f (suc p) n) _ (bit-small (f p)), add-suc, ← suc-add)
-    (bit-packed f n (suc p) j (omega arith))
+shifted : (byte r j : ℕ) → r ≤ 1 → bit (suc j) (2 * byte + r) ≡ bit j byte
+shifted byte r j h = rw (pow-succ', ← div-div-eq-div-mul, halved byte r h)
 
--- It has n bits.
-packed-below : (f : ℕ → Bool) (n p : ℕ) → packed f p n < 2 ^ n
-packed-below f zero p = omega arith
-packed-below f (suc n) p = rw pow-succ' (omega (arith, packed-below f n (suc p), bit-small (f p)))
+-- A byte that is put together so far of the n marks from place p on.
+pub record Packed (Mark : ℕ → Type 0) (p n byte : ℕ) : Type 0 where
+  low : byte < 2 ^ n
+  right : (j : ℕ) → j < n → T (bit j byte) ↔ Mark (p + j)
 
--- A byte that is put together so far of n marks from place p on.
-pub record Packed (f : ℕ → Bool) (p n byte : ℕ) : Type 0 where
-  same : byte ≡ packed f p n
-
-pub packed-starts : (f : ℕ → Bool) (p : ℕ) → Packed f p 0 0
-packed-starts f p = record { same = refl }
+pub packed-starts : (Mark : ℕ → Type 0) (p : ℕ) → Packed Mark p 0 0
+packed-starts Mark p = record { low = omega (arith, pow-zero 2); right = λ j h. absurd (omega arith) }
 
 -- The mark before place p goes in at the lowest bit.
-pub packed-steps : {f : ℕ → Bool} {p n byte r : ℕ} → 0 < p → r ≡ oneIf (f (p - 1)) → Packed f p n byte
-    → Packed f (p - 1) (n + 1) (2 * byte + r)
-packed-steps {p = p} h e d =
-    let back : suc (p - 1) ≡ p = omega arith in
-    record { same = rw (e, d .same, add-one, back) }
+pub packed-steps : {Mark : ℕ → Type 0} {p n byte r : ℕ} → 0 < p → BitOf (Mark (p - 1)) r → Packed Mark p n byte
+    → Packed Mark (p - 1) (n + 1) (2 * byte + r)
+packed-steps {Mark} {p} {n} {byte} {r} h e d =
+    record { low = rw (add-one, pow-succ') (omega (arith, d .low, bit-small e)); right = right }
+  where
+    right : (j : ℕ) → j < n + 1 → T (bit j (2 * byte + r)) ↔ Mark (p - 1 + j)
+    right zero l = let same : p - 1 + 0 ≡ p - 1 = omega arith in rw same (lowest byte e)
+    right (suc j) l =
+        let same : p - 1 + suc j ≡ p + j = omega arith in
+        rw (same, shifted byte r j (bit-small e)) (d .right j (omega arith))
 
 -- Up to seven marks leave room for one more.
-pub packed-room : {f : ℕ → Bool} {p n byte r : ℕ} → n < 8 → r ≡ oneIf (f (p - 1)) → Packed f p n byte → 2 * byte + r < 256
-packed-room {f} {p} {n} h e d =
+pub packed-room : {Mark : ℕ → Type 0} {p n byte r : ℕ} → n < 8 → r ≤ 1 → Packed Mark p n byte → 2 * byte + r < 256
+packed-room {n = n} h l d =
     let room : 2 ^ n ≤ 128 = pow-le-pow-right {n = 2} (omega arith) {i = n} {j = 7} (omega arith) in
-    omega (arith, d .same, packed-below f n p, bit-small (f (p - 1)))
+    omega (arith, d .low)
 
 -- Eight marks are a byte.
-pub packed-byte : {f : ℕ → Bool} {p n byte : ℕ} (at : ℕ) → n ≡ 8 → p ≡ 8 * at → Packed f p n byte → Packs f byte at
-packed-byte {f} at l m d j h = rw (d .same, l, m) (bit-packed f 8 (8 * at) j h)
+pub packed-byte : {Mark : ℕ → Type 0} {p n byte : ℕ} (at : ℕ) → n ≡ 8 → p ≡ 8 * at → Packed Mark p n byte → Packs Mark byte at
+packed-byte at l m d j h = rw m at (d .right j (omega arith))

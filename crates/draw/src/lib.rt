@@ -3,14 +3,12 @@
 ghost use mathlib.Core.Path.{_≡_};
 ghost use Prim.Native.Nat.{_*_, _^_, _<_, _≤_};
 ghost use lib.ListN.{length};
-ghost use Rattle.model.specs.Bits.{oneIf};
 ghost use Rattle.model.specs.Fits.{Fits};
 ghost use Rattle.model.specs.Lines.{bits, value, digits};
 ghost use Rattle.model.specs.Tables.{bytesFor, tableFits, LineTable};
 ghost use Rattle.model.specs.Valid.{storeRefusal};
 ghost use Rattle.costs.specs.Cost.{BothCosts};
-ghost use Rattle.draw.specs.Full.{padded, fullAt};
-ghost use Rattle.draw.specs.Marks.{drawnAt, Packs};
+ghost use Rattle.draw.specs.Marks.{padded, FullAt, DrawnAt, BitOf, Packs};
 use model::Model;
 
 // The refusal that a model and a line store of so many bytes get; 0 for none.
@@ -45,7 +43,7 @@ pub fn draw(m: Model, store: &mut [u8], a: &[u64], b: &[u64])
 fn byte_of(g: usize, k: usize, count: usize, at: usize, a: &[u64], b: &[u64]) -> u8
     requires { ⌜ (1 ≤ g) × (g ≤ 4) × (1 ≤ k) × (k ≤ 3) × (count ≡ bits g k) × (at ≤ 65536) ⌝ }
     requires { ⌜ (4096 ≤ length (now a)) × (4096 ≤ length (now b)) ⌝ }
-    ensures { λ r. ⌜ Packs (drawnAt g k (now (a .entry)) (now (b .entry))) r at ⌝ }
+    ensures { λ r. ⌜ Packs (DrawnAt g k (now (a .entry)) (now (b .entry))) r at ⌝ }
 {
     let mut byte: u8 = 0;
     let mut p = 8 * at + 8;
@@ -62,7 +60,7 @@ fn byte_of(g: usize, k: usize, count: usize, at: usize, a: &[u64], b: &[u64]) ->
 fn bit_of(g: usize, k: usize, count: usize, p: usize, a: &[u64], b: &[u64]) -> u8
     requires { ⌜ (1 ≤ g) × (g ≤ 4) × (1 ≤ k) × (k ≤ 3) × (count ≡ bits g k) ⌝ }
     requires { ⌜ (4096 ≤ length (now a)) × (4096 ≤ length (now b)) ⌝ }
-    ensures { λ r. ⌜ r ≡ oneIf (drawnAt g k (now (a .entry)) (now (b .entry)) p) ⌝ }
+    ensures { λ r. ⌜ BitOf (DrawnAt g k (now (a .entry)) (now (b .entry)) p) r ⌝ }
 {
     if count <= p {
         return 0;
@@ -82,7 +80,7 @@ fn bit_of(g: usize, k: usize, count: usize, p: usize, a: &[u64], b: &[u64]) -> u
 // The value of the full line of place p: the lines of up to `passed` states are passed, and the next length has `power` lines.
 fn full_of(g: usize, k: usize, p: usize) -> usize
     requires { ⌜ (1 ≤ g) × (g ≤ 4) × (1 ≤ k) × (k ≤ 3) × (p < bits g k) ⌝ }
-    ensures { λ r. ⌜ (r ≡ fullAt g k p) × (r < 4096) ⌝ }
+    ensures { λ r. ⌜ FullAt g k p r × (r < 4096) ⌝ }
 {
     let mut rest = p;
     let mut passed: usize = 0;

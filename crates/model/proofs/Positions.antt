@@ -1,13 +1,16 @@
--- A place has one line: shorter lines fill the places below a line's own length, and within a length the base-g value of n states
--- runs through the places below gⁿ. So no two lines share a place.
+-- Lines and places match one to one: shorter lines fill the places below a line's own length, and within a length the base-g value
+-- of n states runs through the places below gⁿ. So each place of the table has just one line.
+use mathlib.Core.Bool.{Bool, true, false}
 use mathlib.Core.Path.{_≡_, refl, ap, sym}
 use mathlib.Core.List.{List, [], _∷_}
 use mathlib.Core.Logic.{inl, inr}
-use Prim.Native.Nat.{ℕ, zero, suc, _+_, _*_, _%_, _^_, _<_, _≤_, pred}
+use Prim.Native.Nat.{ℕ, zero, suc, _+_, _-_, _*_, _%_, _^_, _<_, _≤_, pred}
 use native.Mathlib.Nat.{le-suc-iff, pow-zero, pow-succ', mod-lt, div-add-mod', div-lt-iff-lt-mul, lt-of-mul-lt-mul-left}
 use native.Mathlib.Omega.{arith}
 use lib.Arith.{le-zero, digits-lt, digits-div, digits-mod}
+use lib.Dec.{ltb}
 use lib.ListN.{length}
+use borrow.Author.Tests.{ltb-true, ltb-false}
 use Rattle.model.specs.Lines.{States, Line, powers, bits, value, position, digits}
 
 -- n states have a value below gⁿ.
@@ -50,7 +53,7 @@ digits-value g (x ∷ xs) s =
     rw (digits-div x b, digits-mod x b, digits-value g xs (s .1))
 
 -- There are no fewer lines up to more states.
-pub powers-mono : (g i j : ℕ) → i ≤ j → powers g i ≤ powers g j
+powers-mono : (g i j : ℕ) → i ≤ j → powers g i ≤ powers g j
 unfolding powers
 powers-mono g i zero h = omega (arith, ap (powers g) (le-zero h))
 powers-mono g i (suc j) h =
@@ -85,3 +88,28 @@ digits-line {g} {n = n} {v} some most low =
 -- .. that stands v places after all shorter lines.
 pub digits-position : (g n v : ℕ) → v < g ^ n → position g (digits g n v) ≡ powers g (pred n) + v
 digits-position g n v low = rw (length-digits, value-digits g n v low)
+
+-- Some line stands at place p.
+abbrev pub Stood : ℕ → ℕ → ℕ → Type 0
+Stood g k p = (line : List ℕ) × Line g k line × (position g line ≡ p)
+
+module _ (g k p : ℕ) where
+  -- A place before the lines of more than n + 1 states is one of a shorter line, or of one of n + 1 states.
+  stands : (n : ℕ) (b : Bool) → ltb p (powers g n) ≡ b → suc n ≤ 2 * k → p < powers g (suc n) → (p < powers g n → Stood g k p)
+      → Stood g k p
+  unfolding powers
+  stands n true e h l shorter = shorter (ltb-true p (powers g n) e)
+  stands n false e h l shorter =
+      let past = ltb-false p (powers g n) e in
+      let low : p - powers g n < g ^ suc n = omega arith in
+      let place = digits-position g (suc n) (p - powers g n) low in
+      (digits g (suc n) (p - powers g n), digits-line (omega arith) h low, omega (arith, place))
+
+  up-to : (n : ℕ) → n ≤ 2 * k → p < powers g n → Stood g k p
+  unfolding powers
+  up-to zero h l = absurd (omega arith)
+  up-to (suc n) h l = stands n (ltb p (powers g n)) refl h l (up-to n (omega arith))
+
+  -- Each place of the table has a line.
+  pub position-onto : p < bits g k → Stood g k p
+  position-onto = up-to (2 * k) (omega arith)

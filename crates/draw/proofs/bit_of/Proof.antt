@@ -6,7 +6,7 @@ use Rattle.draw.proofs.bit_of.Statement.{statement}
 use Rattle.draw.proofs.bit_of.Tie as tie
 
 returns : tie.Need-returns
-returns c = bit-spare _ _ _ _ _ (c .before .before .before .pre .0 .4) (c .if1 .taken)
+returns c = bit-spare (c .before .before .before .pre .0 .4) (c .if1 .taken)
 
 full-of-requires : tie.Need-full-of-requires
 full-of-requires c κs = search needs
@@ -19,10 +19,7 @@ shared-slice-read-first c = search needs
 
 returns-2 : tie.Need-returns-2
 returns-2 c =
-    let lines = c .before .before .before .before .before .before .pre .0 .4 in
-    let inside = c .before .before .before .if1 .left in
-    let full = c .before .before .full-of .ensures .0 in
-    bit-clear _ _ _ _ _ lines inside full (λ f. omega arith)
+    bit-clear (c .before .before .full-of .ensures .0) (λ f. omega arith)
 
 mul-second : tie.Need-mul-second
 mul-second c = search needs
@@ -32,17 +29,11 @@ shared-slice-read-second c = search needs
 
 returns-3 : tie.Need-returns-3
 returns-3 c =
-    let lines = c .before .before .before .before .before .before .before .before .pre .0 .4 in
-    let inside = c .before .before .before .before .before .if1 .left in
-    let full = c .before .before .before .before .full-of .ensures .0 in
-    bit-clear _ _ _ _ _ lines inside full (λ f. omega arith)
+    bit-clear (c .before .before .before .before .full-of .ensures .0) (λ f. omega arith)
 
 returns-4 : tie.Need-returns-4
 returns-4 c =
-    let lines = c .before .before .before .before .before .before .before .before .pre .0 .4 in
-    let inside = c .before .before .before .before .before .if1 .left in
-    let full = c .before .before .before .before .full-of .ensures .0 in
-    bit-set _ _ _ _ _ lines inside full (c .before .before .if2 .left) (c .if3 .left)
+    bit-set (c .before .before .before .before .full-of .ensures .0) (c .before .before .if2 .left) (c .if3 .left)
 
 pub bit-of-spec : {M : Type 1} → statement M
 bit-of-spec =

@@ -1,16 +1,16 @@
 -- `byte_of` meets its contract. The invariant: the byte holds the marks taken, from place p on, up to the last of its eight.
-use mathlib.Core.Path.{_≡_, refl}
+use mathlib.Core.Path.{_≡_}
 use Prim.Native.Nat.{_+_, _*_, _-_, _≤_, _<_}
 use native.Mathlib.Omega.{arith}
 use borrow.Author.Needs.{needs}
-use Rattle.draw.specs.Marks.{drawnAt}
-use Rattle.draw.proofs.Pack.{Packed, packed-starts, packed-steps, packed-room, packed-byte}
+use Rattle.draw.specs.Marks.{DrawnAt}
+use Rattle.draw.proofs.Pack.{bit-small, Packed, packed-starts, packed-steps, packed-room, packed-byte}
 use Rattle.draw.proofs.byte_of.Statement.{statement}
 use Rattle.draw.proofs.byte_of.Tie as tie
 
 abbrev Inv-loop : tie.InvT-loop
 Inv-loop g k count at a b byte₀ p₀ taken₀ byte p taken =
-    (taken ≤ 8) × (p + taken ≡ 8 * at + 8) × Packed (drawnAt g k a b) p taken byte
+    (taken ≤ 8) × (p + taken ≡ 8 * at + 8) × Packed (DrawnAt g k a b) p taken byte
 
 abbrev μ-loop : tie.MeasureT-loop
 μ-loop g k count at a b byte₀ p₀ taken₀ byte p taken = 8 - taken
@@ -28,14 +28,14 @@ sub-p : tie.Need-sub-p Inv-loop μ-loop
 sub-p c = search needs
 
 mul-byte : tie.Need-mul-byte Inv-loop μ-loop
-mul-byte c = omega (arith, packed-room (c .loop-test .taken) refl (c .before .loop .inv .2))
+mul-byte c = omega (arith, packed-room {r = 1} (c .loop-test .taken) (omega arith) (c .before .loop .inv .2))
 
 bit-of-requires : tie.Need-bit-of-requires Inv-loop μ-loop
 bit-of-requires c κs = search needs
 
 add-byte : tie.Need-add-byte Inv-loop μ-loop
 add-byte c =
-    omega (arith, packed-room (c .before .loop-test .taken) (c .bit-of .ensures) (c .before .before .loop .inv .2))
+    omega (arith, packed-room (c .before .loop-test .taken) (bit-small (c .bit-of .ensures)) (c .before .before .loop .inv .2))
 
 add-taken : tie.Need-add-taken Inv-loop μ-loop
 add-taken c = search needs

@@ -5,14 +5,14 @@ use native.Mathlib.Omega.{arith}
 use borrow.Author.Needs.{needs}
 use Rattle.model.specs.Lines.{bits}
 use Rattle.model.specs.Tables.{bytesFor}
-use Rattle.draw.specs.Marks.{drawnAt}
+use Rattle.draw.specs.Marks.{DrawnAt}
 use Rattle.draw.proofs.Written.{Written, written-starts, written-steps, written-table, bits-counted}
 use Rattle.draw.proofs.draw.Statement.{statement}
 use Rattle.draw.proofs.draw.Tie as tie
 
 abbrev Inv-loop : tie.InvT-loop
 Inv-loop m store₀ a b count bytes at₀ store at =
-    (count ≡ bits (m .g) (m .k)) × (at ≤ bytes) × Written (drawnAt (m .g) (m .k) a b) bytes store₀ store at
+    (count ≡ bits (m .g) (m .k)) × (at ≤ bytes) × Written (DrawnAt (m .g) (m .k) a b) bytes store₀ store at
 
 abbrev μ-loop : tie.MeasureT-loop
 μ-loop m store₀ a b count bytes at₀ store at = bytes - at

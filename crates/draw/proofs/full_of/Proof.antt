@@ -2,7 +2,7 @@
 use Prim.Native.Nat.{_*_, _-_}
 use native.Mathlib.Omega.{arith}
 use borrow.Author.Needs.{needs}
-use Rattle.draw.proofs.Full.{Reached, reached-starts, reached-steps, reached-small, reached-ends, product-small}
+use Rattle.draw.proofs.Full.{Reached, reached-starts, reached-steps, reached-small, reached-ends, reached-full, product-small}
 use Rattle.draw.proofs.full_of.Statement.{statement}
 use Rattle.draw.proofs.full_of.Tie as tie
 
@@ -35,11 +35,11 @@ add-pad c = search needs
 pad-requires : tie.Need-pad-requires Inv-loop μ-loop
 pad-requires c κs =
     let start = c .before .before in
-    (start .pre .0, start .pre .1, start .pre .3, omega arith, omega arith, reached-ends (c .loop-test .left) (c .before .loop .inv) .0)
+    (start .pre .0, start .pre .1, start .pre .3, omega arith, omega arith, reached-ends (c .loop-test .left) (c .before .loop .inv))
 
 returns : tie.Need-returns Inv-loop μ-loop
 returns c =
-    (rw (reached-ends (c .before .loop-test .left) (c .before .before .loop .inv) .1) (c .pad .ensures .0), c .pad .ensures .1)
+    (reached-full (c .before .loop-test .left) (c .before .before .loop .inv) (c .pad .ensures .0), c .pad .ensures .1)
 
 pub full-of-spec : {M : Type 1} → statement M
 full-of-spec =
