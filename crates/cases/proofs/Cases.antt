@@ -12,7 +12,7 @@ use Rattle.model.specs.declared.Shared.{Shared}
 use Rattle.model.specs.Lines.{powers, digits}
 use Rattle.model.specs.Results.{refused, accepted, firstOf}
 use Rattle.model.specs.Rules.{applies}
-use Rattle.model.specs.Schedules.{stepsOf}
+use Rattle.model.specs.Schedules.{stepsOf, mostSteps}
 use Rattle.model.specs.Valid.{Valid, headFault, symbolFault, rightFault, ruleFault, threadFault, faultOf}
 use Rattle.model.specs.Verdict.{found, Judged}
 use Rattle.model.specs.Walk.{walk, stepFrom, fire, turnFits}
@@ -48,7 +48,7 @@ judges m (Refused n) = false
 judges m (Clear t) = let set = explored m 0 in closed m 0 set && avoids m set && linesRight m set t
 judges m (Found n schedule t) =
     let set = explored m n in
-    closed m n set && delays m n set && linesRight m set t && leb n 4095 && eqb (length schedule) (2 * n) &&
+    closed m n set && delays m n set && linesRight m set t && leb n mostSteps && eqb (length schedule) (2 * n) &&
     reaches (m .target) (replayOf m schedule)
 
 -- The test of an answer for what reading came to.

@@ -6,7 +6,8 @@ use native.Mathlib.Omega.{arith}
 use lib.ListN.{getD}
 use Rattle.model.specs.Lines.{bits}
 use Rattle.model.proofs.Positions.{position-below, position-injective}
-use Rattle.draw.specs.Marks.{padded, FullAt, DrawnAt, BitOf, set, unset}
+use Rattle.summary.specs.Table.{cap}
+use Rattle.draw.specs.Marks.{FullAt, DrawnAt, BitOf, set, unset}
 
 -- A place has one full line.
 one-full : {g k p v w : ℕ} → FullAt g k p v → FullAt g k p w → v ≡ w
@@ -22,8 +23,8 @@ module _ {g k p : ℕ} {a b : List ℕ} where
   pub bit-spare : {count : ℕ} → count ≡ bits g k → count ≤ p → BitOf (DrawnAt g k a b p) 0
   bit-spare e h = unset (spare-place (omega arith))
 
-  pub bit-clear : {v : ℕ} → FullAt g k p v → ((getD a v 0 ≤ 4096) × (getD b v 0 ≤ 4096) → ⊥) → BitOf (DrawnAt g k a b p) 0
+  pub bit-clear : {v : ℕ} → FullAt g k p v → ((getD a v 0 ≤ cap) × (getD b v 0 ≤ cap) → ⊥) → BitOf (DrawnAt g k a b p) 0
   bit-clear f h = unset (λ d. let same = one-full f (d .at) in h (rw same (d .first, d .second)))
 
-  pub bit-set : {v : ℕ} → FullAt g k p v → getD a v 0 ≤ 4096 → getD b v 0 ≤ 4096 → BitOf (DrawnAt g k a b p) 1
+  pub bit-set : {v : ℕ} → FullAt g k p v → getD a v 0 ≤ cap → getD b v 0 ≤ cap → BitOf (DrawnAt g k a b p) 1
   bit-set {v} f x y = set (record { v = v; at = f; first = x; second = y })

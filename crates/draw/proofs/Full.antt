@@ -11,11 +11,12 @@ use lib.Arith.{digits-lt}
 use lib.ListN.{length, replicate, length-append, replicate-append-replicate}
 use Rattle.model.specs.Lines.{powers, bits, lastOf, value, digits}
 use Rattle.model.proofs.Positions.{length-digits, value-digits, digits-line, digits-position}
+use Rattle.costs.specs.Lanes.{fullLines}
 use Rattle.costs.proofs.Digits.{power-small}
 use Rattle.draw.specs.Marks.{padded, FullAt}
 
 -- A further factor fits.
-pub product-small : {v g : ℕ} → v ≤ 4096 → g ≤ 4 → v * g ≤ 16384
+pub product-small : {v g : ℕ} → v ≤ fullLines → g ≤ 4 → v * g ≤ 16384
 product-small h l = mul-le-mul h l
 
 -- One state more.
@@ -70,7 +71,7 @@ reached-steps {g} {k} {p} {rest} {n} {power} h l d =
       place = rw add-one (omega (arith, d .size, d .place));
     }
 
-pub reached-small : {g k p rest n power : ℕ} → g ≤ 4 → k ≤ 3 → Reached g k p rest n power → power ≤ 4096
+pub reached-small : {g k p rest n power : ℕ} → g ≤ 4 → k ≤ 3 → Reached g k p rest n power → power ≤ fullLines
 reached-small {n = n} h l d = omega (arith, d .size, power-small {n = suc n} h (omega (arith, d .inside)))
 
 pub reached-ends : {g k p rest n power : ℕ} → rest < power → Reached g k p rest n power → rest < g ^ (n + 1)
@@ -115,5 +116,5 @@ pub padding-ends : {g w v : ℕ} (k n : ℕ) → 0 < g → 0 < n → w < g ^ n �
     → v ≡ value g (padded k (digits g n w))
 padding-ends {g} {w} k n p l b h = rw (length-digits, last-digits g n w 0 p l b) (h .same)
 
-pub padding-small : {g n w i v : ℕ} → g ≤ 4 → i ≤ 6 → Padding g n w i v → v < 4096
+pub padding-small : {g n w i v : ℕ} → g ≤ 4 → i ≤ 6 → Padding g n w i v → v < fullLines
 padding-small h l d = omega (arith, d .low, power-small h l)

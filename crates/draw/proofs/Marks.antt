@@ -14,6 +14,7 @@ use Rattle.model.specs.declared.ThreadId.the-variants.{A, B}
 use Rattle.model.specs.Walk.{threadOf}
 use Rattle.model.proofs.Positions.{value-below, length-digits, digits-value}
 use Rattle.model.proofs.Turns.{marked-padded}
+use Rattle.summary.specs.Table.{cap}
 use Rattle.costs.specs.Cost.{ViewCost, Costs, BothCosts}
 use Rattle.costs.proofs.Along.{view-cost}
 use Rattle.costs.proofs.Views.{marked-views}
@@ -21,7 +22,7 @@ use Rattle.draw.specs.Marks.{padded}
 
 -- A line is marked exactly if both costs are reached.
 marked-costs : (m : Model) (line : List ℕ) {a b : ℕ}
-    → ViewCost m A line a → ViewCost m B line b → Marked m line ↔ ((a ≤ 4096) × (b ≤ 4096))
+    → ViewCost m A line a → ViewCost m B line b → Marked m line ↔ ((a ≤ cap) × (b ≤ cap))
 marked-costs m line p q = (
   λ r. let v = marked-views line .0 r in (p .least (v .2) .0, q .least (v .3) .0),
   λ h. let v = p .some (h .0) in let w = q .some (h .1) in marked-views line .1 (v .0, w .0, v .1, w .1),
@@ -81,7 +82,7 @@ full-cost m i costs k c line size states =
 
 -- Both costs of the full line that stands for a line say whether the line is marked.
 pub marked-full : (m : Model) (a b : List ℕ) → 1 ≤ m .k → BothCosts m a b → (line : List ℕ) → Line (m .g) (m .k) line
-    → ((getD a (value (m .g) (padded (m .k) line)) 0 ≤ 4096) × (getD b (value (m .g) (padded (m .k) line)) 0 ≤ 4096)) ↔ Marked m line
+    → ((getD a (value (m .g) (padded (m .k) line)) 0 ≤ cap) × (getD b (value (m .g) (padded (m .k) line)) 0 ≤ cap)) ↔ Marked m line
 marked-full m a b k c line l =
     let full : List ℕ = padded (m .k) line in
     let one = full-cost m A a k (c .0) full (full-length l) (full-states l) in

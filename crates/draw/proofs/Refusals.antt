@@ -1,7 +1,6 @@
 -- The refusals in their order: a fault of the model, then a store with too few bits; and where nothing is refused, what is known.
 use mathlib.Core.Path.{_≡_, sym, _∙_}
 use Prim.Native.Nat.{ℕ, _+_, _/_, _<_, _≤_}
-use native.Mathlib.Omega.{arith}
 use borrow.Author.Tests.{le-leb, lt-leb}
 use lib.Dec.{leb→le}
 use Rattle.model.specs.declared.Model.{Model}

@@ -7,6 +7,7 @@ use lib.Dec.{T}
 use lib.ListN.{length, getD, replicate}
 use Rattle.model.specs.Bits.{bit}
 use Rattle.model.specs.Lines.{Line, lastOf, value, position}
+use Rattle.summary.specs.Table.{cap}
 
 -- A line with its last state repeated up to 2K states: a run of fewer turns is one with empty turns behind it.
 abbrev pub padded : ℕ → List ℕ → List ℕ
@@ -23,8 +24,8 @@ pub record FullAt (g k p v : ℕ) : Type 0 where
 pub record DrawnAt (g k : ℕ) (a b : List ℕ) (p : ℕ) : Type 0 where
   pub v : ℕ
   pub at : FullAt g k p v
-  pub first : getD a v 0 ≤ 4096
-  pub second : getD b v 0 ≤ 4096
+  pub first : getD a v 0 ≤ cap
+  pub second : getD b v 0 ≤ cap
 
 -- A bit says whether a mark stands: 1 where it does, and else 0.
 pub data BitOf (Mark : Type 0) : ℕ → Type 0 where

@@ -8,8 +8,10 @@ ghost use Rattle.model.specs.Lines.{bits, value, digits};
 ghost use Rattle.model.specs.Tables.{bytesFor, tableFits, LineTable};
 ghost use Rattle.model.specs.Valid.{storeRefusal};
 ghost use Rattle.costs.specs.Cost.{BothCosts};
+ghost use Rattle.costs.specs.Lanes.{fullLines};
 ghost use Rattle.draw.specs.Marks.{padded, FullAt, DrawnAt, BitOf, Packs};
 use model::Model;
+use summary::CAP;
 
 // The refusal that a model and a line store of so many bytes get; 0 for none.
 pub fn refusal(m: Model, size: usize) -> u8
@@ -26,7 +28,7 @@ pub fn refusal(m: Model, size: usize) -> u8
 // The line table of a model in range, into a store that has room for it; `a` and `b` hold both threads' costs of all full lines.
 pub fn draw(m: Model, store: &mut [u8], a: &[u64], b: &[u64])
     requires { ⌜ Fits m ⌝ ∗ ⌜ bytesFor (m .g) (m .k) ≤ length (now store) ⌝
-        ∗ ⌜ (4096 ≤ length (now a)) × (4096 ≤ length (now b)) ⌝
+        ∗ ⌜ (fullLines ≤ length (now a)) × (fullLines ≤ length (now b)) ⌝
         ∗ ⌜ BothCosts m (now a) (now b) ⌝ }
     ensures { λ _. ⌜ LineTable m (now (store .entry)) (now (store .exit)) ⌝ }
 {
@@ -42,7 +44,7 @@ pub fn draw(m: Model, store: &mut [u8], a: &[u64], b: &[u64])
 // The byte at `at` of the table, of a model with `count` lines: its highest bit first.
 fn byte_of(g: usize, k: usize, count: usize, at: usize, a: &[u64], b: &[u64]) -> u8
     requires { ⌜ (1 ≤ g) × (g ≤ 4) × (1 ≤ k) × (k ≤ 3) × (count ≡ bits g k) × (at ≤ 65536) ⌝ }
-    requires { ⌜ (4096 ≤ length (now a)) × (4096 ≤ length (now b)) ⌝ }
+    requires { ⌜ (fullLines ≤ length (now a)) × (fullLines ≤ length (now b)) ⌝ }
     ensures { λ r. ⌜ Packs (DrawnAt g k (now (a .entry)) (now (b .entry))) r at ⌝ }
 {
     let mut byte: u8 = 0;
@@ -59,7 +61,7 @@ fn byte_of(g: usize, k: usize, count: usize, at: usize, a: &[u64], b: &[u64]) ->
 // The bit at place p: 1 where both threads can follow its full line. There is none past the last line.
 fn bit_of(g: usize, k: usize, count: usize, p: usize, a: &[u64], b: &[u64]) -> u8
     requires { ⌜ (1 ≤ g) × (g ≤ 4) × (1 ≤ k) × (k ≤ 3) × (count ≡ bits g k) ⌝ }
-    requires { ⌜ (4096 ≤ length (now a)) × (4096 ≤ length (now b)) ⌝ }
+    requires { ⌜ (fullLines ≤ length (now a)) × (fullLines ≤ length (now b)) ⌝ }
     ensures { λ r. ⌜ BitOf (DrawnAt g k (now (a .entry)) (now (b .entry)) p) r ⌝ }
 {
     if count <= p {
@@ -67,11 +69,11 @@ fn bit_of(g: usize, k: usize, count: usize, p: usize, a: &[u64], b: &[u64]) -> u
     }
     let v = full_of(g, k, p);
     let first = a[v];
-    if 4096 < first {
+    if CAP < first {
         return 0;
     }
     let second = b[v];
-    if 4096 < second {
+    if CAP < second {
         return 0;
     }
     1
@@ -80,7 +82,7 @@ fn bit_of(g: usize, k: usize, count: usize, p: usize, a: &[u64], b: &[u64]) -> u
 // The value of the full line of place p: the lines of up to `passed` states are passed, and the next length has `power` lines.
 fn full_of(g: usize, k: usize, p: usize) -> usize
     requires { ⌜ (1 ≤ g) × (g ≤ 4) × (1 ≤ k) × (k ≤ 3) × (p < bits g k) ⌝ }
-    ensures { λ r. ⌜ FullAt g k p r × (r < 4096) ⌝ }
+    ensures { λ r. ⌜ FullAt g k p r × (r < fullLines) ⌝ }
 {
     let mut rest = p;
     let mut passed: usize = 0;
@@ -96,7 +98,7 @@ fn full_of(g: usize, k: usize, p: usize) -> usize
 // The value of the line of `size` states whose value is `short`, with its last state repeated up to 2K states.
 fn pad(g: usize, k: usize, size: usize, short: usize) -> usize
     requires { ⌜ (1 ≤ g) × (g ≤ 4) × (k ≤ 3) × (1 ≤ size) × (size ≤ 2 * k) × (short < g ^ size) ⌝ }
-    ensures { λ r. ⌜ (r ≡ value g (padded k (digits g size short))) × (r < 4096) ⌝ }
+    ensures { λ r. ⌜ (r ≡ value g (padded k (digits g size short))) × (r < fullLines) ⌝ }
 {
     let last = short % g;
     let full = 2 * k;

@@ -7,6 +7,7 @@ use borrow.Author.Tests.{le-leb, lt-leb}
 use lib.Dec.{leb}
 use Rattle.model.specs.declared.Model.{Model}
 use Rattle.model.specs.Results.{refuse, firstOf}
+use Rattle.model.specs.Schedules.{mostBytes}
 use Rattle.model.specs.Tables.{tableFits, LineTable}
 use Rattle.model.specs.Valid.{storeRefusal}
 use Rattle.model.proofs.Checks.{stops, passes, closes}
@@ -17,23 +18,23 @@ use Rattle.judge.specs.Answer.{refusalOf, Answers, LeavesLines}
 
 module _ (m : Model) (lines schedule : ℕ) {number : ℕ} (e : number ≡ storeRefusal m (tableFits m lines)) where
   -- The line table's refusal comes first, and then the schedule store's.
-  checks : firstOf (number ∷ refuse 7 (leb 8190 schedule) ∷ []) ≡ refusalOf m lines schedule
+  checks : firstOf (number ∷ refuse 7 (leb mostBytes schedule) ∷ []) ≡ refusalOf m lines schedule
   unfolding refusalOf
-  checks = rw e (two-stores m (tableFits m lines) (leb 8190 schedule))
+  checks = rw e (two-stores m (tableFits m lines) (leb mostBytes schedule))
 
   -- A refusal of the line table is the answer ..
   pub refused : (number ≡ 0 → ⊥) → Answers m (refusalOf m lines schedule) (Refused number)
   refused h = let s : number ≡ refusalOf m lines schedule = stops _ refl h ∙ checks in (omega (arith, s, h), s)
 
   -- .. then 7 for a schedule store that is too short ..
-  pub cramped : number ≡ 0 → schedule < 8190 → Answers m (refusalOf m lines schedule) (Refused 7)
+  pub cramped : number ≡ 0 → schedule < mostBytes → Answers m (refusalOf m lines schedule) (Refused 7)
   cramped z h =
-      let s : 7 ≡ refusalOf m lines schedule = passes _ refl z (closes (rw (lt-leb 8190 schedule h))) ∙ checks in
+      let s : 7 ≡ refusalOf m lines schedule = passes _ refl z (closes (rw (lt-leb mostBytes schedule h))) ∙ checks in
       (omega (arith, s), s)
 
   -- .. and else there is none.
-  pub unrefused : number ≡ 0 → 8190 ≤ schedule → 0 ≡ refusalOf m lines schedule
-  unrefused z h = passes _ refl z (closes (rw (le-leb 8190 schedule h))) ∙ checks
+  pub unrefused : number ≡ 0 → mostBytes ≤ schedule → 0 ≡ refusalOf m lines schedule
+  unrefused z h = passes _ refl z (closes (rw (le-leb mostBytes schedule h))) ∙ checks
 
 -- Where nothing is refused the line store holds the line table.
 pub filled : (m : Model) (r : Judgement) {old new : List ℕ} → Answers m 0 r → LineTable m old new → LeavesLines m r old new

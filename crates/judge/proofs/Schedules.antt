@@ -12,7 +12,7 @@ use Rattle.model.specs.declared.Model.{Model}
 use Rattle.model.specs.Fits.{Fits}
 use Rattle.model.specs.Lines.{digits}
 use Rattle.model.specs.Runs.{Reaches, Turns}
-use Rattle.model.specs.Schedules.{Stored, mostSteps}
+use Rattle.model.specs.Schedules.{Stored, mostSteps, mostBytes}
 use Rattle.model.specs.Tables.{tableFits}
 use Rattle.model.specs.Valid.{Valid}
 use Rattle.model.specs.Walk.{startStacks}
@@ -89,6 +89,6 @@ pub found-replayed : (m : Model) (lines : ℕ) {n : ℕ} {old new : List ℕ}
     → replayOf m (take (2 * n) new) ≡ Accepted (m .target) true
 unfolding refusalOf
 found-replayed m lines {n} {old} a s =
-    let known = granted m (tableFits m lines && leb 8190 (length old)) .0 (a .0) in
-    let room = leb→le 8190 (length old) (both (tableFits m lines) (leb 8190 (length old)) .0 (known .1) .1) in
+    let known = granted m (tableFits m lines && leb mostBytes (length old)) .0 (a .0) in
+    let room = leb→le mostBytes (length old) (both (tableFits m lines) (leb mostBytes (length old)) .0 (known .1) .1) in
     replayed m (known .0) (a .1 .0) (omega (arith, room, a .1 .0)) s

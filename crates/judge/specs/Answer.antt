@@ -6,7 +6,7 @@ use Prim.Native.Nat.{ℕ, _<_}
 use lib.Dec.{leb}
 use Rattle.model.specs.declared.Model.{Model}
 use Rattle.model.specs.Runs.{Reaches}
-use Rattle.model.specs.Schedules.{Stored}
+use Rattle.model.specs.Schedules.{Stored, mostBytes}
 use Rattle.model.specs.Tables.{tableFits, LineTable}
 use Rattle.model.specs.Valid.{storeRefusal}
 use Rattle.model.specs.Verdict.{clear, long, found, Judged}
@@ -16,7 +16,7 @@ use Rattle.judge.specs.declared.Judgement.the-variants.{Clear, Long, Fou
 -- The refusal that a model and the lengths of the two stores get: the model's fault (3, 4), then 7 where the line store has
 -- too few bits or the schedule store fewer than 8,190 bytes; 0 for none.
 unfoldable pub refusalOf : Model → ℕ → ℕ → ℕ
-refusalOf m lines schedule = storeRefusal m (tableFits m lines && leb 8190 schedule)
+refusalOf m lines schedule = storeRefusal m (tableFits m lines && leb mostBytes schedule)
 
 -- An answer is right where n is the refusal due: that number alone, or where there is none a verdict that is true of all runs.
 abbrev pub Answers : Model → ℕ → Judgement → Type 0

@@ -90,7 +90,7 @@ pub digits-position : (g n v : ℕ) → v < g ^ n → position g (digits g n v) 
 digits-position g n v low = rw (length-digits, value-digits g n v low)
 
 -- Some line stands at place p.
-abbrev pub Stood : ℕ → ℕ → ℕ → Type 0
+abbrev Stood : ℕ → ℕ → ℕ → Type 0
 Stood g k p = (line : List ℕ) × Line g k line × (position g line ≡ p)
 
 module _ (g k p : ℕ) where
@@ -111,5 +111,5 @@ module _ (g k p : ℕ) where
   up-to (suc n) h l = stands n (ltb p (powers g n)) refl h l (up-to n (omega arith))
 
   -- Each place of the table has a line.
-  pub position-onto : p < bits g k → Stood g k p
+  pub position-onto : p < bits g k → (line : List ℕ) × Line g k line × (position g line ≡ p)
   position-onto = up-to (2 * k) (omega arith)

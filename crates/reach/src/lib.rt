@@ -5,6 +5,7 @@ ghost use lib.ListN.{length};
 ghost use Rattle.model.specs.Fits.{Fits};
 ghost use Rattle.model.specs.Tables.{bytesFor, LineTable};
 ghost use Rattle.reach.specs.Answer.{outcomeOf, Leaves};
+use costs::LINES;
 use model::Model;
 
 // The answer to a call that fills a line table: done, or a refusal's number.
@@ -31,8 +32,8 @@ fn mark(m: Model, store: &mut [u8])
     requires { ⌜ Fits m ⌝ ∗ ⌜ bytesFor (m .g) (m .k) ≤ length (now store) ⌝ }
     ensures { λ _. ⌜ LineTable m (now (store .entry)) (now (store .exit)) ⌝ }
 {
-    let mut a = [0u64; 4096];
-    let mut b = [0u64; 4096];
+    let mut a = [0u64; LINES];
+    let mut b = [0u64; LINES];
     costs::both(m, &mut a, &mut b);
     draw::draw(m, store, &a, &b);
 }

@@ -9,7 +9,7 @@ use lib.ListN.{length, take}
 use Rattle.model.specs.declared.Model.{Model}
 use Rattle.model.specs.Results.{refused, accepted}
 use Rattle.model.specs.Runs.{Reaches}
-use Rattle.model.specs.Schedules.{stepsOf, Stored}
+use Rattle.model.specs.Schedules.{stepsOf, Stored, mostSteps, mostBytes}
 use Rattle.model.specs.Tables.{bytesFor, tableFits, LineTable}
 use Rattle.model.specs.Valid.{Valid}
 use Rattle.model.specs.Verdict.{clear, long, found, Judged}
@@ -30,17 +30,17 @@ use Rattle.report.proofs.Numbers.{digits-4, length-line}
 use Rattle.report.proofs.Sizes.{powers-low, found-short}
 
 -- A valid model is not refused by the judge where the stores have 683 and 8,190 bytes.
-unrefused : (m : Model) → Valid m → refusalOf m 683 8190 ≡ 0
+unrefused : (m : Model) → Valid m → refusalOf m 683 mostBytes ≡ 0
 unfolding refusalOf
 unrefused m v =
     let f = valid-fits m .0 v in
     let low : bytesFor (m .g) (m .k) ≤ 683 =
     let b = powers-low (m .g) (2 * m .k) (f .g .1) (omega (arith, f .k)) in omega arith in
-    granted m (tableFits m 683 && leb 8190 8190) .1
-    (v, both (tableFits m 683) (leb 8190 8190) .1 (order (bytesFor (m .g) (m .k)) 683 .1 low, tt))
+    granted m (tableFits m 683 && leb mostBytes mostBytes) .1
+    (v, both (tableFits m 683) (leb mostBytes mostBytes) .1 (order (bytesFor (m .g) (m .k)) 683 .1 low, tt))
 
 -- So it gives no refusal.
-pub not-refused : (m : Model) {a b : ℕ} {P : Type 0} → Valid m → a ≡ 683 → b ≡ 8190 → 0 < refusalOf m a b → P
+pub not-refused : (m : Model) {a b : ℕ} {P : Type 0} → Valid m → a ≡ 683 → b ≡ mostBytes → 0 < refusalOf m a b → P
 not-refused m v e f h = absurd (omega (arith, unrefused m v, rw (e, f) at h))
 
 -- A store of 683 bytes has a bit for each line of a valid model.
@@ -61,7 +61,7 @@ tells-clear {m} {table = table} j t =
     }
 
 -- There is room for the text of the schedule.
-pub found-room : {m : Model} {n : ℕ} {old new : List ℕ} → Valid m → n ≤ 4095 → (s : Stored (Reaches m) n 0 old new) → 2 * n ≤ length old
+pub found-room : {m : Model} {n : ℕ} {old new : List ℕ} → Valid m → n ≤ mostSteps → (s : Stored (Reaches m) n 0 old new) → 2 * n ≤ length old
     → length (line foundWord n ++ stepLines (stepsOf (take (2 * n) new))) ≤ longestText
 found-room {m} v h s l = rw (stored-steps s l) (found-short (valid-fits m .0 v) (s .run) (s .count) h)
 

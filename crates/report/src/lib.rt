@@ -4,6 +4,7 @@ ghost use lib.ListN.{length};
 ghost use Rattle.model.specs.Valid.{Valid};
 ghost use Rattle.report.specs.Prints.{Told, Prints, Begins, longestText, Reports};
 use judge::Judgement;
+use model::MOST_BYTES;
 use model::Model;
 use record::Answer;
 
@@ -44,7 +45,7 @@ fn judged(m: Model, store: &mut [u8]) -> usize
     ensures { λ r. ⌜ Begins (Told m) r (now (store .entry)) (now (store .exit)) ⌝ }
 {
     let mut table = [0u8; 683];
-    let mut schedule = [0u8; 8190];
+    let mut schedule = [0u8; MOST_BYTES];
     match judge::judge(m, &mut table, &mut schedule) {
         Judgement::Clear => lines::put_clear(store, m.g, m.k, &table),
         Judgement::Long => text::put(store, 0, b"long\n"),
