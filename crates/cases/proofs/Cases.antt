@@ -28,12 +28,12 @@ use Rattle.replay.proofs.Accepts.{accepts}
 use Rattle.cases.specs.Cases.{cases}
 use Rattle.cases.specs.Claims.{Table, ungiven, given, Answer, Refused, Clear, Found, Case, Scheduled, Lined, ClaimsOf, Claims}
 use Rattle.cases.proofs.Explored.{grow, explored, closed}
-use Rattle.cases.proofs.Places.{Place, next}
+use Rattle.cases.proofs.Abstracts.{Abstract, next}
 use Rattle.cases.proofs.Search.{finds}
 use Rattle.cases.proofs.Told.{avoids, delays, absent, followed, bitRight, bitsRight, drawn, avoids-clear, delays-least, drawn-lines}
 
 -- The bytes of a line table, if they are given, are right.
-abbrev linesRight : Model → List Place → Table → Bool
+abbrev linesRight : Model → List Abstract → Table → Bool
 linesRight m set ungiven = true
 linesRight m set (given store) = drawn m set store
 
@@ -64,7 +64,7 @@ holds : Case → Bool
 holds c = comes (readOf (c .bytes)) (c .answer)
 
 -- The lines.
-lines-right : (m : Model) (limit : ℕ) (set : List Place) → T (closed m limit set) → (t : Table) → T (linesRight m set t)
+lines-right : (m : Model) (limit : ℕ) (set : List Abstract) → T (closed m limit set) → (t : Table) → T (linesRight m set t)
     → Lined m t
 lines-right m limit set c ungiven h = tt
 lines-right m limit set c (given store) h = drawn-lines m limit set c store h
@@ -97,12 +97,12 @@ judged : (bytes : List ℕ) (m : Model) → readOf bytes ≡ accepted (m, []) �
 unfolding judges
 judged bytes m e v (Refused n) h = absurd h
 judged bytes m e v (Clear t) h =
-    let set : List Place = explored m 0 in
+    let set : List Abstract = explored m 0 in
     let w = simp tests at h in
     let none = avoids-clear m 0 set (w .0 .0) (valid-fits m .0 v .k .0) (w .0 .1) in
     record { model = m; read = e; valid = v; holds = (none, lines-right m 0 set (w .0 .0) t (w .1)) }
 judged bytes m e v (Found n schedule t) h =
-    let set : List Place = explored m n in
+    let set : List Abstract = explored m n in
     let w = simp tests at h in
     let c = w .0 .0 .0 .0 in
     let s = scheduled m n schedule (w .0 .1) (w .1) in

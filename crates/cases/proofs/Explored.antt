@@ -1,5 +1,5 @@
--- A set of places that has the start in it, and with each place all next ones: then each run, however long and deep, is at one
--- of its places (an invariant). The set is computed, and so is the test that it is closed.
+-- A set of abstract configurations that has the start in it, and with each of them all next ones: then each run, however long and deep,
+-- is at one of them (an invariant). The set is computed, and so is the test that it is closed.
 use mathlib.Core.Bool.{Bool, _&&_, not}
 use mathlib.Core.List.{List, [], _∷_, _++_, append-assoc, append-nil}
 use mathlib.Core.Path.{_≡_, refl}
@@ -14,52 +14,52 @@ use Rattle.model.specs.Runs.{Turns, stop, end, move}
 use Rattle.model.specs.Walk.{Stacks, startStacks, Step}
 use Rattle.model.proofs.Tests.{both}
 use Rattle.cases.proofs.Scans.{all, any, those, pick}
-use Rattle.cases.proofs.Places.{Place, Describes, within, within-describes, ended, next, next-end, next-move}
+use Rattle.cases.proofs.Abstracts.{Abstract, Describes, within, within-describes, ended, next, next-end, next-move}
 use Rattle.cases.proofs.Shapes.{empty, top}
 
 -- What is known at the start.
-abbrev pub startPlace : Model → Place
-startPlace m =
+abbrev pub startAbstract : Model → Abstract
+startAbstract m =
     record { line = []; steps = 0; shared = m .start .0; a = top (m .a .first .0) empty; b = top (m .b .first .0) empty }
 
--- A place, or one that says less, is in a set.
-abbrev pub known : List Place → Place → Bool
+-- An abstract configuration, or one that says less, is in a set.
+abbrev pub known : List Abstract → Abstract → Bool
 known set c = any (within c) set
 
--- All next places are in the set.
-abbrev pub follows : Model → ℕ → List Place → Place → Bool
+-- All next abstract configurations are in the set.
+abbrev pub follows : Model → ℕ → List Abstract → Abstract → Bool
 follows m limit set c = all (known set) (next m limit c)
 
--- The places met so far, once those to do were explored and what was met thereby; at most so many.
-unfoldable pub grow : Model → ℕ → ℕ → List Place → List Place → List Place
+-- The abstract configurations met so far, once those to do were explored and what was met thereby; at most so many.
+unfoldable pub grow : Model → ℕ → ℕ → List Abstract → List Abstract → List Abstract
 grow m limit zero todo met = met
 grow m limit (suc more) [] met = met
 grow m limit (suc more) (c ∷ todo) met =
     let fresh = those (λ d. not (known met d)) (next m limit c) in grow m limit more (todo ++ fresh) (met ++ fresh)
 
--- The places of a model's runs, with steps counted up to a limit.
-unfoldable pub explored : Model → ℕ → List Place
-explored m limit = grow m limit 1000 (startPlace m ∷ []) (startPlace m ∷ [])
+-- The abstract configurations of a model's runs, with steps counted up to a limit.
+unfoldable pub explored : Model → ℕ → List Abstract
+explored m limit = grow m limit 1000 (startAbstract m ∷ []) (startAbstract m ∷ [])
 
--- The start is in the set, and so are all next places of each.
-unfoldable pub closed : Model → ℕ → List Place → Bool
-closed m limit set = known set (startPlace m) && all (follows m limit set) set
+-- The start is in the set, and so are all next abstract configurations of each.
+unfoldable pub closed : Model → ℕ → List Abstract → Bool
+closed m limit set = known set (startAbstract m) && all (follows m limit set) set
 
--- A run so far is at a place of the set.
-pub record At (set : List Place) (before : List ℕ) (n q : ℕ) (σ : Stacks) : Type 0 where
-  pub place : Place
+-- A run so far is at an abstract configuration of the set.
+pub record At (set : List Abstract) (before : List ℕ) (n q : ℕ) (σ : Stacks) : Type 0 where
+  pub place : Abstract
   pub inside : T (known set place)
   pub holds : Describes place before n q σ
 
--- Then a place describes it that passes a test which all places of the set pass.
-pub passes : (f : Place → Bool) {set : List Place} {before : List ℕ} {n q : ℕ} {σ : Stacks} → At set before n q σ → T (all f set)
-    → (c : Place) × T (f c) × Describes c before n q σ
+-- Then one of them describes it that passes a test which all of the set pass.
+pub passes : (f : Abstract → Bool) {set : List Abstract} {before : List ℕ} {n q : ℕ} {σ : Stacks} → At set before n q σ → T (all f set)
+    → (c : Abstract) × T (f c) × Describes c before n q σ
 passes f {set} h t =
     let z = pick f (within (h .place)) set t (h .inside) in
     (z .0, z .1, within-describes (h .place) (z .0) (z .2) (h .holds))
 
-module _ (m : Model) (limit : ℕ) (set : List Place) (all-follow : T (all (follows m limit set) set)) where
-  -- A run that goes on from a place of the set stays in it.
+module _ (m : Model) (limit : ℕ) (set : List Abstract) (all-follow : T (all (follows m limit set) set)) where
+  -- A run that goes on from an abstract configuration of the set stays in it.
   stays : {t q : ℕ} {σ : Stacks} {line : List ℕ} {ss : List Step} → Turns m t q σ line ss
       → (before : List ℕ) (n : ℕ) → length before ≡ t → t + length line ≤ 2 * m .k → At set before n q σ
       → (τ : Stacks) × At set (before ++ line) (n + length ss) (lastOf q line) τ
@@ -77,14 +77,14 @@ module _ (m : Model) (limit : ℕ) (set : List Place) (all-follow : T (all (foll
       let same : suc n + length ss ≡ n + suc (length ss) = omega arith in
       (rest .0, rw same at (rest .1))
 
--- A run from the start along a line ends at a place of a closed set.
-pub arrives : (m : Model) (limit : ℕ) (set : List Place) → T (closed m limit set) → (line : List ℕ) (ss : List Step)
+-- A run from the start along a line ends at an abstract configuration of a closed set.
+pub arrives : (m : Model) (limit : ℕ) (set : List Abstract) → T (closed m limit set) → (line : List ℕ) (ss : List Step)
     → length line ≤ 2 * m .k → Turns m 0 (m .start .0) (startStacks m) line ss
     → (τ : Stacks) × At set line (length ss) (lastOf (m .start .0) line) τ
 unfolding closed
 arrives m limit set t line ss h r =
-    let w = both (known set (startPlace m)) (all (follows m limit set) set) .0 t in
-    let start : Describes (startPlace m) [] 0 (m .start .0) (startStacks m) =
+    let w = both (known set (startAbstract m)) (all (follows m limit set) set) .0 t in
+    let start : Describes (startAbstract m) [] 0 (m .start .0) (startStacks m) =
     record { line = refl; steps = le-refl 0; shared = refl; a = (refl, tt); b = (refl, tt) } in
     rw zero-add at
-    (stays m limit set (w .1) r [] 0 refl (omega arith) (record { place = startPlace m; inside = w .0; holds = start }))
+    (stays m limit set (w .1) r [] 0 refl (omega arith) (record { place = startAbstract m; inside = w .0; holds = start }))

@@ -1,6 +1,6 @@
 pub mod Cases
 pub mod Explored
-pub mod Places
+pub mod Abstracts
 pub mod Scans
 pub mod Search
 pub mod Shapes

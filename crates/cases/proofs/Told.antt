@@ -1,5 +1,5 @@
--- What a closed set of places tells of a model: Clear, or how many steps reach the target at least, and which lines are not
--- marked. A run that reaches the target is one along a full line that ends there, so it is at a place of the set.
+-- What a closed set of abstract configurations tells of a model: Clear, or how many steps reach the target at least, and which lines are not
+-- marked. A run that reaches the target is one along a full line that ends there, so it is at an abstract configuration of the set.
 use mathlib.Core.Bool.{Bool, true, false, _&&_, _||_, not, cond}
 use mathlib.Core.List.{List, [], _∷_}
 use mathlib.Core.Logic.{_↔_, inl, inr}
@@ -18,24 +18,24 @@ use Rattle.model.proofs.Positions.{value-below, digits-value}
 use Rattle.model.proofs.Tests.{both, order, equal}
 use Rattle.model.proofs.Turns.{legal-full}
 use Rattle.cases.proofs.Explored.{closed, arrives, At, passes}
-use Rattle.cases.proofs.Places.{Place}
+use Rattle.cases.proofs.Abstracts.{Abstract}
 use Rattle.cases.proofs.Scans.{either, all, alike, alike-refl, below, at-below}
 use Rattle.cases.proofs.Search.{finds, finds-run}
 
--- The shared state of a place is the target.
-abbrev pub onTarget : Model → Place → Bool
+-- The shared state of an abstract configuration is the target.
+abbrev pub onTarget : Model → Abstract → Bool
 onTarget m c = eqb (c .shared) (m .target .0)
 
--- No place has the target as its shared state ..
-unfoldable pub avoids : Model → List Place → Bool
+-- No abstract configuration has the target as its shared state ..
+unfoldable pub avoids : Model → List Abstract → Bool
 avoids m set = all (λ c. not (onTarget m c)) set
 
 -- .. or none that fewer than n steps may lead to.
-unfoldable pub delays : Model → ℕ → List Place → Bool
+unfoldable pub delays : Model → ℕ → List Abstract → Bool
 delays m n set = all (λ c. not (onTarget m c) || leb n (c .steps)) set
 
--- No place was come to along the line.
-unfoldable pub absent : List Place → List ℕ → Bool
+-- No abstract configuration was come to along the line.
+unfoldable pub absent : List Abstract → List ℕ → Bool
 absent set line = all (λ c. not (alike (c .line) line)) set
 
 -- A run along a line from the start is found, one with at most two steps more than it could have turn ends.
@@ -43,18 +43,18 @@ unfoldable pub followed : Model → List ℕ → Bool
 followed m line = finds (2 * m .k + 2) m 0 (m .start .0) (startStacks m) line
 
 -- The bit of the line of n + 1 states whose value is v is right: where it stands a run is found, and where not the line is absent.
-unfoldable pub bitRight : Model → List Place → List ℕ → ℕ → ℕ → Bool
+unfoldable pub bitRight : Model → List Abstract → List ℕ → ℕ → ℕ → Bool
 bitRight m set store n v =
     let run = followed m (digits (m .g) (suc n) v) in
     let none = absent set (digits (m .g) (suc n) v) in
     cond (bitAt store (powers (m .g) n + v)) run none
 
 -- So are those of all lines.
-unfoldable pub bitsRight : Model → List Place → List ℕ → Bool
+unfoldable pub bitsRight : Model → List Abstract → List ℕ → Bool
 bitsRight m set store = below (2 * m .k) (λ n. below (m .g ^ suc n) (bitRight m set store n))
 
 -- A store is the line table by its length, its bits and its spare bits.
-unfoldable pub drawn : Model → List Place → List ℕ → Bool
+unfoldable pub drawn : Model → List Abstract → List ℕ → Bool
 drawn m set store =
     eqb (length store) (bytesFor (m .g) (m .k)) && bitsRight m set store &&
     below (8 * bytesFor (m .g) (m .k)) (λ p. ltb p (bits (m .g) (m .k)) || not (bitAt store p))
@@ -70,8 +70,8 @@ spared count false p h t = refl
 spared count true p h t =
     elim (either (ltb p count) false t) [ inl z ↦ absurd (omega (arith, ltb→lt p count z)) | inr z ↦ absurd z ]
 
-module _ (m : Model) (limit : ℕ) (set : List Place) (t : T (closed m limit set)) where
-  -- A run that reaches the target is at a place of the set.
+module _ (m : Model) (limit : ℕ) (set : List Abstract) (t : T (closed m limit set)) where
+  -- A run that reaches the target is at an abstract configuration of the set.
   reached : 1 ≤ m .k → (ss : List Step) → Reaches m ss
       → (line : List ℕ) × (τ : Stacks) × At set line (length ss) (m .target .0) τ
   reached k ss r =

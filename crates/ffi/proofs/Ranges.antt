@@ -19,8 +19,7 @@ use Rattle.model.proofs.Inside.{applies-iff, fits-of}
 use Rattle.model.proofs.Ranges.{valid-fits}
 use Rattle.writer.proofs.Lengths.{at-most}
 use Rattle.writer.specs.Writer.{recordOf}
-use Rattle.record.specs.Written as writing
-use Rattle.record.specs.Written.{writtenOf}
+use Rattle.record.specs.Written.{writtenOf, writtenBy}
 use Rattle.record.specs.declared.Written.{Written}
 use Rattle.record.specs.declared.Written.the-variants as written
 use Rattle.reach.specs.Answer.{answerOf, outcomeOf}
@@ -28,8 +27,8 @@ use Rattle.judge.specs.declared.Judgement.{Judgement}
 use Rattle.judge.specs.declared.Judgement.the-variants as judgement
 use Rattle.judge.specs.Answer.{refusalOf, Answers}
 use Rattle.replay.specs.declared.Replayed.the-variants as replayed
-use Rattle.replay.specs.Replay.{sizeFits, answer, replayOf}
-use Rattle.ffi.specs.Replies.{InRange, writeReply, linesReply, judgeReply, replayReply}
+use Rattle.replay.specs.Replay.{sizeFits, replayedBy, replayOf}
+use Rattle.ffi.specs.Replies.{ReplyFits, writeReply, linesReply, judgeReply, replayReply}
 
 -- A valid model is refused by 7 alone, where a store is too small.
 seven : (m : Model) (room : Bool) → Valid m → storeRefusal m room ≤ 7
@@ -40,13 +39,13 @@ seven m room v = rw v (go room)
     go true = omega arith
     go false = omega arith
 
-pub write-range : (m : Model) (size : ℕ) → Valid m → InRange (writeReply (writtenOf m size))
+pub write-range : (m : Model) (size : ℕ) → Valid m → ReplyFits (writeReply (writtenOf m size))
 unfolding writtenOf
 write-range m size v =
     let room = leb (length (recordOf m)) size in
     go (storeRefusal m room) (seven m room v)
   where
-    go : (n : ℕ) → n ≤ 7 → InRange (writeReply (writing.answer (unless n (accepted (length (recordOf m))))))
+    go : (n : ℕ) → n ≤ 7 → ReplyFits (writeReply (writtenBy (unless n (accepted (length (recordOf m))))))
     go zero h = omega (arith, at-most m v)
     go (suc n) h = (omega arith, omega arith)
 
@@ -54,15 +53,15 @@ write-range m size v =
 pub length-fits : (m : Model) (size : ℕ) {w : Written} {n : ℕ} → Valid m → w ≡ writtenOf m size → w ≡ written.Length n → n < 65536
 length-fits m size v e f = rw (sym e ∙ f) at (write-range m size v)
 
-pub lines-range : (m : Model) (size : ℕ) → Valid m → InRange (linesReply (outcomeOf m size))
+pub lines-range : (m : Model) (size : ℕ) → Valid m → ReplyFits (linesReply (outcomeOf m size))
 lines-range m size v = go (storeRefusal m (tableFits m size)) (seven m (tableFits m size) v)
   where
-    go : (n : ℕ) → n ≤ 7 → InRange (linesReply (answerOf n))
+    go : (n : ℕ) → n ≤ 7 → ReplyFits (linesReply (answerOf n))
     go zero h = tt
     go (suc n) h = (omega arith, omega arith)
 
 pub judge-range : (m : Model) (lines schedule : ℕ) (j : Judgement) → Valid m → Answers m (refusalOf m lines schedule) j
-    → InRange (judgeReply j)
+    → ReplyFits (judgeReply j)
 unfolding refusalOf
 judge-range m lines schedule judgement.Clear v a = tt
 judge-range m lines schedule judgement.Long v a = tt
@@ -104,18 +103,18 @@ module _ {m : Model} (f : Fits m) where
   walks [] c h = h
   walks (s ∷ ss) c h = onward (stepFrom m c s) (λ d. walk m d ss) (stepped c s) (λ d k. walks ss d k)
 
-pub replay-range : (m : Model) (bytes : List ℕ) → Valid m → InRange (replayReply (replayOf m bytes))
+pub replay-range : (m : Model) (bytes : List ℕ) → Valid m → ReplyFits (replayReply (replayOf m bytes))
 unfolding replayOf firstOf
 replay-range m bytes v = rw v (go (sizeFits bytes) (walk m (startOf m) (stepsOf bytes)) (walks f (stepsOf bytes) (startOf m) (f .start)))
   where
     f : Fits m
     f = valid-fits m .0 v
 
-    state : (q : ℕ) (b : Bool) → q < m .g → InRange (replayReply (replayed.Accepted (record { 0 = q }) b))
+    state : (q : ℕ) (b : Bool) → q < m .g → ReplyFits (replayReply (replayed.Accepted (record { 0 = q }) b))
     state q true h = omega (arith, f .g)
     state q false h = omega (arith, f .g)
 
-    go : (b : Bool) (w : Walked) → Ends (m .g) w → InRange (replayReply (answer m (unless (firstOf (refuse 8 b ∷ [])) w)))
+    go : (b : Bool) (w : Walked) → Ends (m .g) w → ReplyFits (replayReply (replayedBy m (unless (firstOf (refuse 8 b ∷ [])) w)))
     go false w e = (omega arith, omega arith)
     go true (refused n) e = (omega (arith, e .0), omega (arith, e .1))
     go true (accepted c) e = state (c .shared) (eqb (c .shared) (m .target .0)) e

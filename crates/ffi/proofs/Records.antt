@@ -16,7 +16,7 @@ use Rattle.ffi.specs.Replies as reply
 use Rattle.judge.specs.declared.Judgement.{Judgement}
 use Rattle.judge.specs.Answer.{refusalOf, Answers, LeavesLines, LeavesSchedule}
 use Rattle.ffi.specs.Calls.{Answered}
-use Rattle.ffi.specs.Replies.{InRange, numberOf, judgeReply}
+use Rattle.ffi.specs.Replies.{ReplyFits, numberOf, judgeReply}
 use Rattle.ffi.proofs.Ranges.{judge-range}
 use Rattle.ffi.proofs.Replies.{says}
 use Rattle.record.proofs.Decided.{record-refusal}
@@ -30,7 +30,7 @@ pub record WasRead (bytes : List ℕ) (m : Model) : Type 0 where
 -- Reading gave this refusal, and it is in range.
 pub record WasRefused (bytes : List ℕ) (n : ℕ) : Type 0 where
   pub read : readOf bytes ≡ refused n
-  pub inRange : InRange (reply.refused n)
+  pub fits : ReplyFits (reply.refused n)
 
 pub was-read : (bytes : List ℕ) {r : Reading} → (r ≡ readingOf (readOf bytes)) × Keeps r bytes → r .answer ≡ Accepted
     → WasRead bytes (r .model)
@@ -50,7 +50,7 @@ was-refused bytes {r} {n} told a = go (readOf bytes) refl (told .0)
     go (refused k) same e =
         let read : readOf bytes ≡ refused n = cc in
         let low = record-refusal bytes read in
-        record { read = read; inRange = (omega (arith, low), omega (arith, low)) }
+        record { read = read; fits = (omega (arith, low), omega (arith, low)) }
     go (accepted (m, rest)) same e = absurd (let z : _≡_ {A = ℕ} 0 1 = cc in omega arith)
 
 -- The judge's answer on a valid model, by the arm that gives its number.

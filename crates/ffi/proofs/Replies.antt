@@ -5,7 +5,7 @@ use Prim.Native.Nat.{ℕ, _+_, _*_, _/_, _%_, _≤_, _<_}
 use native.Mathlib.Omega.{arith}
 use borrow.Author.Tests.{ne-eqb}
 use Rattle.ffi.specs.Replies.{Reply, refused, done, written, clear, long, found, stopped, reached}
-use Rattle.ffi.specs.Replies.{packed, numberOf, replyBy, replyOf, InRange, Says}
+use Rattle.ffi.specs.Replies.{packed, numberOf, replyBy, replyOf, ReplyFits, Says}
 
 -- The low byte is the kind ..
 kind-told : (kind x y z : ℕ) → kind < 256 → packed kind x y z % 256 ≡ kind
@@ -35,7 +35,7 @@ refusal-told n h l = rw (
 )
 
 -- Every reply in range is told by its number.
-pub reply-told : (a : Reply) → InRange a → replyOf (numberOf a) ≡ a
+pub reply-told : (a : Reply) → ReplyFits a → replyOf (numberOf a) ≡ a
 unfolding replyBy
 reply-told (refused n) h = parts-told n 0 (omega arith) (omega arith) ∙ refusal-told n (h .0) (h .1)
 reply-told done h = refl
@@ -47,7 +47,7 @@ reply-told (stopped q) h = parts-told 36 q (omega arith) h
 reply-told (reached q) h = parts-told 37 q (omega arith) h
 
 -- So the number of an answer whose reply is in range says that reply, where `a` is what the code has and `b` what is promised ..
-pub says : {A : Type 0} {a b : A} {r : ℕ} (reply : A → Reply) → a ≡ b → InRange (reply b) → r ≡ numberOf (reply a)
+pub says : {A : Type 0} {a b : A} {r : ℕ} (reply : A → Reply) → a ≡ b → ReplyFits (reply b) → r ≡ numberOf (reply a)
     → Says r (reply b)
 says {A} {a} {b} {r} reply e h f =
     let number : r ≡ numberOf (reply b) = f ∙ ap (λ (x : A). numberOf (reply x)) e in
@@ -57,7 +57,7 @@ says {A} {a} {b} {r} reply e h f =
 pub alone : (n : ℕ) → n ≡ packed n 0 0 0
 alone n = omega arith
 
-pub says-refused : (n : ℕ) → InRange (refused n) → Says n (refused n)
+pub says-refused : (n : ℕ) → ReplyFits (refused n) → Says n (refused n)
 says-refused n h = says {a = n} refused refl h (alone n)
 
 -- Done is said by 0.

@@ -19,18 +19,18 @@ Either Refusal Call (result.refused n) = Refusal n
 Either Refusal Call (result.accepted (m, rest)) = Call m
 
 -- Reading: done for a whole record, else the refusal.
-abbrev pub Reads : List ℕ → ℕ → Type 0
-Reads bytes r = Either (λ n. Says r (refused n)) (λ m. Says r done) (readOf bytes)
+abbrev pub ReadCall : List ℕ → ℕ → Type 0
+ReadCall bytes r = Either (λ n. Says r (refused n)) (λ m. Says r done) (readOf bytes)
 
 -- Writing the model that was read: the writer's answer, with the store as the writer leaves it.
-abbrev pub Writes : List ℕ → ℕ → List ℕ → List ℕ → Type 0
-Writes bytes r old new =
+abbrev pub WriteCall : List ℕ → ℕ → List ℕ → List ℕ → Type 0
+WriteCall bytes r old new =
     Either (λ n. Says r (refused n) × (new ≡ old))
     (λ m. Says r (writeReply (writtenOf m (length old))) × (new ≡ storeOf m old)) (readOf bytes)
 
 -- The line table of the model that was read: what that call answers, with the store as it leaves it.
-abbrev pub Lines : List ℕ → ℕ → List ℕ → List ℕ → Type 0
-Lines bytes r old new =
+abbrev pub LinesCall : List ℕ → ℕ → List ℕ → List ℕ → Type 0
+LinesCall bytes r old new =
     Either (λ n. Says r (refused n) × (new ≡ old))
     (λ m. Says r (linesReply (outcomeOf m (length old))) × Leaves m (outcomeOf m (length old)) old new) (readOf bytes)
 
@@ -43,11 +43,11 @@ pub record Answered (m : Model) (r : ℕ) (lines linesAfter schedule scheduleAft
   pub witness : LeavesSchedule m judgement schedule scheduleAfter
 
 -- Judging the model that was read.
-abbrev pub Judges : List ℕ → ℕ → List ℕ → List ℕ → List ℕ → List ℕ → Type 0
-Judges bytes r lines linesAfter schedule scheduleAfter =
+abbrev pub JudgeCall : List ℕ → ℕ → List ℕ → List ℕ → List ℕ → List ℕ → Type 0
+JudgeCall bytes r lines linesAfter schedule scheduleAfter =
     Either (λ n. Says r (refused n) × (linesAfter ≡ lines) × (scheduleAfter ≡ schedule))
     (λ m. Answered m r lines linesAfter schedule scheduleAfter) (readOf bytes)
 
 -- Replaying a schedule of the model that was read: what replay answers.
-abbrev pub Replays : List ℕ → List ℕ → ℕ → Type 0
-Replays bytes schedule r = Either (λ n. Says r (refused n)) (λ m. Says r (replayReply (replayOf m schedule))) (readOf bytes)
+abbrev pub ReplayCall : List ℕ → List ℕ → ℕ → Type 0
+ReplayCall bytes schedule r = Either (λ n. Says r (refused n)) (λ m. Says r (replayReply (replayOf m schedule))) (readOf bytes)

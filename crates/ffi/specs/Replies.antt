@@ -51,15 +51,15 @@ abbrev pub replyOf : ℕ → Reply
 replyOf r = replyBy (r % 256) (r / 65536 % 65536)
 
 -- A reply whose number tells it: refusals are 1 to 31, and what is carried fits in 16 bits.
-abbrev pub InRange : Reply → Type 0
-InRange (refused n) = (1 ≤ n) × (n ≤ 31)
-InRange done = Unit {0}
-InRange (written n) = n < 65536
-InRange clear = Unit {0}
-InRange long = Unit {0}
-InRange (found n) = n < 65536
-InRange (stopped q) = q < 65536
-InRange (reached q) = q < 65536
+abbrev pub ReplyFits : Reply → Type 0
+ReplyFits (refused n) = (1 ≤ n) × (n ≤ 31)
+ReplyFits done = Unit {0}
+ReplyFits (written n) = n < 65536
+ReplyFits clear = Unit {0}
+ReplyFits long = Unit {0}
+ReplyFits (found n) = n < 65536
+ReplyFits (stopped q) = q < 65536
+ReplyFits (reached q) = q < 65536
 
 -- A number says a reply: it is that reply's number, and what it tells is that reply.
 pub record Says (r : ℕ) (a : Reply) : Type 0 where

@@ -1,7 +1,7 @@
 // The calls for C and Rust: bytes in, a number out, and a record in place of a model. The numbers are defined in specs/.
 ghost use mathlib.Core.Path.{_≡_};
 ghost use Prim.Native.Nat.{_<_};
-ghost use Rattle.ffi.specs.Calls.{Reads, Writes, Lines, Judges, Replays};
+ghost use Rattle.ffi.specs.Calls.{ReadCall, WriteCall, LinesCall, JudgeCall, ReplayCall};
 ghost use Rattle.ffi.specs.Replies.{packed};
 use judge::Judgement;
 use reach::Outcome;
@@ -35,7 +35,7 @@ fn with_field(kind: u64, x: u64) -> u64
 // Reads a record: done where it is accepted.
 #[no_mangle]
 pub extern "C" fn turncheck_read(bytes: &[u8]) -> u64
-    ensures { λ r. ⌜ Reads (now (bytes .entry)) r ⌝ }
+    ensures { λ r. ⌜ ReadCall (now (bytes .entry)) r ⌝ }
 {
     let reading = record::read(bytes);
     let answer = reading.answer;
@@ -48,7 +48,7 @@ pub extern "C" fn turncheck_read(bytes: &[u8]) -> u64
 // Reads a record and writes its model's record to the front of the store: written, with its length.
 #[no_mangle]
 pub extern "C" fn turncheck_write(bytes: &[u8], store: &mut [u8]) -> u64
-    ensures { λ r. ⌜ Writes (now (bytes .entry)) r (now (store .entry)) (now (store .exit)) ⌝ }
+    ensures { λ r. ⌜ WriteCall (now (bytes .entry)) r (now (store .entry)) (now (store .exit)) ⌝ }
 {
     let reading = record::read(bytes);
     let answer = reading.answer;
@@ -64,7 +64,7 @@ pub extern "C" fn turncheck_write(bytes: &[u8], store: &mut [u8]) -> u64
 // Reads a record and fills its model's line table: done.
 #[no_mangle]
 pub extern "C" fn turncheck_lines(bytes: &[u8], lines: &mut [u8]) -> u64
-    ensures { λ r. ⌜ Lines (now (bytes .entry)) r (now (lines .entry)) (now (lines .exit)) ⌝ }
+    ensures { λ r. ⌜ LinesCall (now (bytes .entry)) r (now (lines .entry)) (now (lines .exit)) ⌝ }
 {
     let reading = record::read(bytes);
     let answer = reading.answer;
@@ -80,7 +80,7 @@ pub extern "C" fn turncheck_lines(bytes: &[u8], lines: &mut [u8]) -> u64
 // Reads a record and judges its model: the verdict, Found with its steps.
 #[no_mangle]
 pub extern "C" fn turncheck_judge(bytes: &[u8], lines: &mut [u8], schedule: &mut [u8]) -> u64
-    ensures { λ r. ⌜ Judges (now (bytes .entry)) r (now (lines .entry)) (now (lines .exit))
+    ensures { λ r. ⌜ JudgeCall (now (bytes .entry)) r (now (lines .entry)) (now (lines .exit))
         (now (schedule .entry)) (now (schedule .exit)) ⌝ }
 {
     let reading = record::read(bytes);
@@ -99,7 +99,7 @@ pub extern "C" fn turncheck_judge(bytes: &[u8], lines: &mut [u8], schedule: &mut
 // Reads a record and replays a schedule of its model: the last shared state, by whether it is the target.
 #[no_mangle]
 pub extern "C" fn turncheck_replay(bytes: &[u8], schedule: &[u8]) -> u64
-    ensures { λ r. ⌜ Replays (now (bytes .entry)) (now (schedule .entry)) r ⌝ }
+    ensures { λ r. ⌜ ReplayCall (now (bytes .entry)) (now (schedule .entry)) r ⌝ }
 {
     let reading = record::read(bytes);
     let answer = reading.answer;

@@ -19,7 +19,7 @@ use Rattle.model.proofs.Results.{apart}
 use Rattle.record.specs.declared.Reading.{Reading}
 use Rattle.record.specs.Kept.{Unused, Kept, Keeps}
 use Rattle.record.specs.Held.{readingOf}
-use Rattle.record.specs.Reader.{Read, parseRules, Head, parseHead, threadOf, modelOf, parseFront, ended, readOf}
+use Rattle.record.specs.Reader.{Read, parseRules, Head, parseHead, threadFrom, modelOf, parseFront, ended, readOf}
 use Rattle.record.specs.Written.{ReadsBack}
 use Rattle.writer.specs.Writer.{weightOf, rulesOf, mapOf, headBytes, recordOf}
 use Rattle.record.proofs.OneField.{parted, carried, value-same}
@@ -119,7 +119,7 @@ read-kept bs e k =
 
 -- A thread with its unused places zero is the same thread.
 tidy-same : (t : Thread) → length (t .rules) ≡ 64 → t .count ≤ 64
-    → SameThread t (threadOf (t .first .0) (take (t .count) (t .rules)))
+    → SameThread t (threadFrom (t .first .0) (take (t .count) (t .rules)))
 tidy-same t n k =
     let used : List Rule = take (t .count) (t .rules) in
     let size : length used ≡ t .count = length-take-le (t .count) (t .rules) (omega arith) in

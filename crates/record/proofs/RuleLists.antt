@@ -18,7 +18,7 @@ use Rattle.model.specs.Results.{accepted}
 use Rattle.model.proofs.Results.{checked}
 use Rattle.model.proofs.Tests.{order}
 use Rattle.record.specs.Reader.{parseByte, parseField, ruleMap, parseSymbol, parseRight, parseRule, parseRuleList}
-use Rattle.writer.specs.Writer.{fieldOf, weightOf, symbolsOf, symbolBits, ruleOf, ruleListOf}
+use Rattle.writer.specs.Writer.{fieldOf, weightOf, symbolsOf, symbolBits, ruleBytes, ruleListOf}
 use Rattle.record.proofs.OneField.{parted, carried, byte-forth}
 use Rattle.record.proofs.OneField.{ranged-back, ranged-forth, field-back, FieldRead, field-forth}
 use Rattle.record.proofs.Maps.{newBits, rule-sum, hasFirst, hasSecond, rule-bits}
@@ -65,8 +65,8 @@ halves : (a b : ℕ) → b ≤ 15 → ((a * 16 + b) / 16 ≡ a) × ((a * 16 + b)
 halves a b h = (omega arith, omega arith)
 
 -- A rule that is written is read.
-pub rule-back : (g : ℕ) (r : Rule) → RuleFits g r → (rest : List ℕ) → parseRule g (ruleOf r ++ rest) ≡ accepted (r, rest)
-unfolding parseRule ruleOf weightOf parseByte
+pub rule-back : (g : ℕ) (r : Rule) → RuleFits g r → (rest : List ℕ) → parseRule g (ruleBytes r ++ rest) ≡ accepted (r, rest)
+unfolding parseRule ruleBytes weightOf parseByte
 rule-back g r f rest =
     let h = halves (r .before .0) (r .symbol .0) (f .top) in
     let b = rule-bits (eqb (r .after .0) (r .before .0)) (r .right) in
@@ -84,7 +84,7 @@ rule-back g r f rest =
 
 -- What reading a rule tells.
 record RuleRead (g : ℕ) (bs : List ℕ) (r : Rule) (rest : List ℕ) : Type 0 where
-  bytes : bs ≡ ruleOf r ++ rest
+  bytes : bs ≡ ruleBytes r ++ rest
   fits : RuleFits g r
 
 -- The parts of a rule that were read make its bytes.
@@ -92,7 +92,7 @@ rule-made : {g map pair next : ℕ} {new : Right} {bs m₁ m₂ m₃ rest : List
     → bs ≡ map ∷ m₁ → T (ruleMap map) → m₁ ≡ pair ∷ m₂ → pair / 16 < g
     → FieldRead (bit 0 map) 0 g (pair / 16) next m₂ m₃ → RightRead (bit 1 map) (bit 2 map) new m₃ rest
     → RuleRead g bs (record { before = record { 0 = pair / 16 }; symbol = record { 0 = pair % 16 }; after = record { 0 = next }; right = new }) rest
-unfolding ruleOf weightOf
+unfolding ruleBytes weightOf
 rule-made {g} {map} {pair} {next} {new} {bs} {m₁} {m₂} {m₃} {rest} e t p low f x =
     let sum : cond (eqb next (pair / 16)) 0 1 + symbolBits new ≡ map = rule-sum map t (eqb next (pair / 16)) new (f .stands) (x .bits) in
     record {
@@ -126,7 +126,7 @@ pub list-back : (g : ℕ) (rs : List Rule) → RulesFit g rs → (rest : List �
 unfolding parseRuleList ruleListOf
 list-back g [] f rest = refl
 list-back g (r ∷ rs) f rest =
-    rw (append-assoc (ruleOf r) (ruleListOf rs) rest, rule-back g r (f .0) (ruleListOf rs ++ rest), list-back g rs (f .1) rest)
+    rw (append-assoc (ruleBytes r) (ruleListOf rs) rest, rule-back g r (f .0) (ruleListOf rs ++ rest), list-back g rs (f .1) rest)
 
 -- What reading a list of rules tells.
 pub record ListRead (g n : ℕ) (bs : List ℕ) (rs : List Rule) (rest : List ℕ) : Type 0 where

@@ -113,8 +113,8 @@ parseHead bs =
     andRead (parseField (bit 1 map) 3 1 4 2 rest) (λ k rest. parseHeadRest map g k rest))))
 
 -- A thread with a first symbol and these rules; the unused places are zero.
-abbrev pub threadOf : ℕ → List Rule → Thread
-threadOf first rs =
+abbrev pub threadFrom : ℕ → List Rule → Thread
+threadFrom first rs =
     record { first = record { 0 = first }; count = length rs; rules = rs ++ replicate (64 - length rs) zeroRule }
 
 -- The model of a head and two lists of rules.
@@ -125,8 +125,8 @@ modelOf h ra rb =
       k = h .k;
       start = record { 0 = h .start };
       target = record { 0 = h .target };
-      a = threadOf (h .a) ra;
-      b = threadOf (h .b) rb;
+      a = threadFrom (h .a) ra;
+      b = threadFrom (h .b) rb;
     }
 
 -- The record at the front of a list: the head, then A's rules and B's.

@@ -13,14 +13,14 @@ use Rattle.record.specs.Reader.{readOf}
 use Rattle.writer.specs.Writer.{recordOf}
 
 -- The answer, by what writing comes to: the record's length, or the refusal.
-abbrev pub answer : Result ℕ → Written
-answer (refused n) = Refused n
-answer (accepted n) = Length n
+abbrev pub writtenBy : Result ℕ → Written
+writtenBy (refused n) = Refused n
+writtenBy (accepted n) = Length n
 
 -- The answer, by the length of the store: the model's fault, 7 for a store shorter than the record, else the record's length.
 unfoldable pub writtenOf : Model → ℕ → Written
 writtenOf m size =
-    answer (unless (storeRefusal m (leb (length (recordOf m)) size)) (accepted (length (recordOf m))))
+    writtenBy (unless (storeRefusal m (leb (length (recordOf m)) size)) (accepted (length (recordOf m))))
 
 -- A store by the answer: as it was where the call refused, else with the bytes at its front.
 abbrev pub holding : Written → List ℕ → List ℕ → List ℕ

@@ -18,7 +18,7 @@ ghost use mathlib.Core.Path.{_≡_};
 ghost use Prim.Native.Nat.{_≤_};
 ghost use lib.ListN.{length, drop};
 ghost use Rattle.record.specs.Held.{Reads, headPartOf, frontOf, Padded, listed, readingOf, zeroModel};
-ghost use Rattle.record.specs.Reader.{parseFront, parseHead, parseHeadRest, threadOf};
+ghost use Rattle.record.specs.Reader.{parseFront, parseHead, parseHeadRest, threadFrom};
 
 // A record at the front of a slice, and how many bytes it took.
 pub fn front(bytes: &[u8]) -> Front
@@ -70,7 +70,7 @@ fn refusal(n: u8) -> Front
 // A thread with the rules that were read.
 fn thread(first: u8, l: RuleList) -> Thread
     requires { ⌜ Padded (l .count) (l .rules) ⌝ }
-    ensures { λ r. ⌜ r ≡ threadOf first (listed l) ⌝ }
+    ensures { λ r. ⌜ r ≡ threadFrom first (listed l) ⌝ }
 {
     let rules = l.rules;
     Thread {

@@ -20,7 +20,7 @@ use Rattle.model.proofs.Results.{undue}
 use Rattle.model.proofs.Stores.{length-bytes, steps-bytes, bytes-steps}
 use Rattle.model.proofs.Tests.{tests, passed}
 use Rattle.replay.specs.declared.Replayed.the-variants.{Accepted, Refused}
-use Rattle.replay.specs.Replay.{sizeFits, sizeRefusal, answer, replayOf, Legally}
+use Rattle.replay.specs.Replay.{sizeFits, sizeRefusal, replayedBy, replayOf, Legally}
 
 -- The bytes of at most 4,095 steps fit in size.
 fits : (ss : List Step) → length ss ≤ 4095 → T (sizeFits (bytesOf ss))
@@ -32,7 +32,7 @@ apart : {X : Type 0} {n : ℕ} {g : Shared} {reached : Bool} → Refused n ≡ A
 apart {X} {n} {g} {reached} e = let z : _≡_ {A = ℕ} 0 1 = cc in absurd (omega arith)
 
 -- What is accepted was walked to its last state.
-walked : (m : Model) (w : Walked) {g : Shared} {reached : Bool} → answer m w ≡ Accepted g reached
+walked : (m : Model) (w : Walked) {g : Shared} {reached : Bool} → replayedBy m w ≡ Accepted g reached
     → (c : Config) × (w ≡ accepted c) × (c .shared ≡ g .0) × (reached ≡ eqb (g .0) (m .target .0))
 walked m (refused n) e = apart e
 walked m (accepted c) {g} {reached} e =

@@ -13,7 +13,7 @@ use Rattle.model.proofs.Checks.{stops}
 use Rattle.model.proofs.Ranges.{valid-fits}
 use Rattle.model.proofs.Results.{due}
 use Rattle.replay.specs.declared.Replayed.the-variants.{Refused}
-use Rattle.replay.specs.Replay.{sizeFits, answer, replayOf}
+use Rattle.replay.specs.Replay.{sizeFits, replayedBy, replayOf}
 use Rattle.replay.specs.Stack.{Counted}
 
 -- A valid model's rules are within their arrays.
@@ -37,6 +37,6 @@ module _ (m : Model) (l : List ℕ) {found : ℕ} (e : found ≡ faultOf m) wher
 
   -- .. and any other is walked.
   pub walked : found ≡ 0 → length l % 2 ≡ 0 → length l ≤ 8190 → {w : Walked} → w ≡ walk m (startOf m) (stepsOf l)
-      → answer m w ≡ replayOf m l
+      → replayedBy m w ≡ replayOf m l
   unfolding replayOf sizeFits firstOf
   walked z h k p = rw (p, ← e, z, eq-eqb (length l % 2) 0 h, le-leb (length l) 8190 k)

@@ -23,13 +23,13 @@ abbrev pub sizeRefusal : Model → List ℕ → ℕ
 sizeRefusal m bytes = firstOf (faultOf m ∷ refuse 8 (sizeFits bytes) ∷ [])
 
 -- What a walk's end says: the last shared state, and whether it is the target; or the refusal, the walk's being 9 or 10.
-abbrev pub answer : Model → Walked → Replayed
-answer m (refused n) = Refused n
-answer m (accepted c) = Accepted (record { 0 = c .shared }) (eqb (c .shared) (m .target .0))
+abbrev pub replayedBy : Model → Walked → Replayed
+replayedBy m (refused n) = Refused n
+replayedBy m (accepted c) = Accepted (record { 0 = c .shared }) (eqb (c .shared) (m .target .0))
 
 -- The answer: what is refused before the walk, or what the walk from the start comes to.
 unfoldable pub replayOf : Model → List ℕ → Replayed
-replayOf m bytes = answer m (unless (sizeRefusal m bytes) (walk m (startOf m) (stepsOf bytes)))
+replayOf m bytes = replayedBy m (unless (sizeRefusal m bytes) (walk m (startOf m) (stepsOf bytes)))
 
 -- Bytes are a legal schedule of at most 4,095 steps of a valid model, whose last shared state is q; `reached` says whether that
 -- is the target. Replay accepts just those (a law).

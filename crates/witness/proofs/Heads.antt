@@ -16,14 +16,14 @@ use Rattle.model.specs.declared.ThreadId.{ThreadId}
 use Rattle.model.specs.declared.ThreadId.the-variants.{A, B}
 use Rattle.summary.specs.Control.{TurnEnd}
 use Rattle.costs.specs.Ends.{turnOf, endsOf}
-use Rattle.witness.specs.Plan.{planSize, endsIn, ruleIn, headBytes, InRange, Planned}
+use Rattle.witness.specs.Plan.{planSize, endsIn, ruleIn, planHead, InRange, Planned}
 use Rattle.witness.proofs.Stored.{stored-at}
 
 -- The head, stored in three parts.
 pub head-stored : (i : ThreadId) (l : List ℕ) (g : ℕ) (line : List ℕ) (count : ℕ) {a b o e p q : ℕ} {m : List ℕ} (last : List ℕ)
     → a ≡ turnOf i 0 → b ≡ turnOf i 1 → o ≡ getD line a 0 → e ≡ getD line (a + 1) 0 → p ≡ getD line b 0
     → q ≡ getD line (b + 1) 0 → m ≡ sets l 0 (g ∷ a ∷ o ∷ []) → last ≡ sets m 3 (e ∷ p ∷ q ∷ [])
-    → set last 6 count ≡ sets l 0 (headBytes i g line count)
+    → set last 6 count ≡ sets l 0 (planHead i g line count)
 head-stored i l g line count {a} {b} last ha hb ho he hp hq hm hl =
     rw (hl, hm, ho, he, hp, hq, add-one a, add-one b, ha, hb)
 
@@ -45,12 +45,12 @@ rule-fits four f = record { state = omega arith; top = f .top; next = omega arit
 -- A plan with the head of a line and the rules of a thread.
 pub record Made (th : Thread) (i : ThreadId) (g : ℕ) (line plan : List ℕ) : Type 0 where
   pub size : length plan ≡ planSize
-  pub head : (k : ℕ) → k < 7 → getD plan k 0 ≡ getD (headBytes i g line (th .count)) k 0
+  pub head : (k : ℕ) → k < 7 → getD plan k 0 ≡ getD (planHead i g line (th .count)) k 0
   pub rules : (r : ℕ) → r < th .count → ruleIn plan r ≡ ruleAt th r
 
 -- Head and rules stored one after the other.
 pub made : (th : Thread) (i : ThreadId) (g : ℕ) (line old mid new : List ℕ) → length old ≡ planSize
-    → length new ≡ planSize → mid ≡ sets old 0 (headBytes i g line (th .count))
+    → length new ≡ planSize → mid ≡ sets old 0 (planHead i g line (th .count))
     → ((k : ℕ) → k < 8 → getD new k 0 ≡ getD mid k 0) → ((r : ℕ) → r < th .count → ruleIn new r ≡ ruleAt th r)
     → Made th i g line new
 made th i g line old mid new room size stored kept rules =
@@ -58,7 +58,7 @@ made th i g line old mid new room size stored kept rules =
       size = size;
       head =
           λ k h. kept k (omega arith)
-          ∙ rw stored (rw (zero-add k) at (stored-at (headBytes i g line (th .count)) old 0 k h (omega arith)));
+          ∙ rw stored (rw (zero-add k) at (stored-at (planHead i g line (th .count)) old 0 k h (omega arith)));
       rules = rules;
     }
 

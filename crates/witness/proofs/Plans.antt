@@ -12,31 +12,31 @@ use Rattle.model.specs.declared.Right.the-variants.{Remove, Swap, Push}
 use Rattle.model.specs.declared.Rule.{Rule}
 use Rattle.model.specs.declared.Thread.{Thread}
 use Rattle.model.specs.Rules.{ruleAt}
-use Rattle.witness.specs.Plan.{rightIn, rightBytes, ruleFrom, ruleIn, ruleBytes}
+use Rattle.witness.specs.Plan.{rightIn, planRight, ruleFrom, ruleIn, planRule}
 use Rattle.witness.proofs.Stored.{stored-below, stored-at}
 
 -- A right side has three bytes ..
-right-size : (x : Right) → length (rightBytes x) ≡ 3
-unfolding rightBytes
+right-size : (x : Right) → length (planRight x) ≡ 3
+unfolding planRight
 right-size Remove = refl
 right-size (Swap a) = refl
 right-size (Push a b) = refl
 
 -- .. and is found again.
-right-found : (x : Right) → rightIn (getD (rightBytes x) 0 0) (getD (rightBytes x) 1 0) (getD (rightBytes x) 2 0) ≡ x
-unfolding rightBytes rightIn
+right-found : (x : Right) → rightIn (getD (planRight x) 0 0) (getD (planRight x) 1 0) (getD (planRight x) 2 0) ≡ x
+unfolding planRight rightIn
 right-found Remove = refl
 right-found (Swap a) = refl
 right-found (Push a b) = refl
 
 -- A rule that is stored is found again.
-rule-found : (l : List ℕ) (at : ℕ) (r : Rule) → at + 6 ≤ length l → ruleFrom (sets l at (ruleBytes r)) at ≡ r
+rule-found : (l : List ℕ) (at : ℕ) (r : Rule) → at + 6 ≤ length l → ruleFrom (sets l at (planRule r)) at ≡ r
 unfolding ruleFrom
 rule-found l at r room =
-    let three : length (rightBytes (r .right)) ≡ 3 = right-size (r .right) in
-    let found : (k : ℕ) → k < 6 → getD (sets l at (ruleBytes r)) (at + k) 0 ≡ getD (ruleBytes r) k 0 =
-    λ k h. stored-at (ruleBytes r) l at k (omega arith) (omega arith) in
-    let first : getD (sets l at (ruleBytes r)) at 0 ≡ r .before .0 = rw add-zero at (found 0 (omega arith)) in
+    let three : length (planRight (r .right)) ≡ 3 = right-size (r .right) in
+    let found : (k : ℕ) → k < 6 → getD (sets l at (planRule r)) (at + k) 0 ≡ getD (planRule r) k 0 =
+    λ k h. stored-at (planRule r) l at k (omega arith) (omega arith) in
+    let first : getD (sets l at (planRule r)) at 0 ≡ r .before .0 = rw add-zero at (found 0 (omega arith)) in
     rw (
       first,
       found 1 (omega arith),
@@ -49,8 +49,8 @@ rule-found l at r room =
 
 -- The bytes of a rule, stored in two parts.
 pub rule-stored : (r : Rule) (l : List ℕ) (at : ℕ) (x : Right) {m n : List ℕ}
-    → m ≡ sets l at (r .before .0 ∷ r .symbol .0 ∷ r .after .0 ∷ []) → n ≡ sets m (at + 3) (rightBytes x) → r .right ≡ x
-    → n ≡ sets l at (ruleBytes r)
+    → m ≡ sets l at (r .before .0 ∷ r .symbol .0 ∷ r .after .0 ∷ []) → n ≡ sets m (at + 3) (planRight x) → r .right ≡ x
+    → n ≡ sets l at (planRule r)
 rule-stored r l at x p q e = let three : at + 3 ≡ suc (suc (suc at)) = omega arith in rw (e, q, three, p)
 
 -- A rule stays where its bytes do.
@@ -79,9 +79,9 @@ listed-start th old = record { size = refl; rules = λ i h. absurd (omega arith)
 
 -- One rule more.
 pub listed-next : {th : Thread} {r : ℕ} {old new : List ℕ} → Listed th r old new → 8 + 6 * r + 6 ≤ length new
-    → Listed th (r + 1) old (sets new (8 + 6 * r) (ruleBytes (ruleAt th r)))
+    → Listed th (r + 1) old (sets new (8 + 6 * r) (planRule (ruleAt th r)))
 listed-next {th} {r} {old} {new} p room =
-    let bytes = ruleBytes (ruleAt th r) in
+    let bytes = planRule (ruleAt th r) in
     record {
       size = length-sets new (8 + 6 * r) bytes ∙ p .size;
       rules =

@@ -10,11 +10,11 @@ use borrow.Author.Tests.{lt-ltb, le-ltb, eq-eqb, ne-eqb}
 use lib.Dec.{eqb, ltb}
 use Rattle.witness.specs.declared.goal.Goal.{Goal}
 use Rattle.witness.specs.declared.onward.Onward.the-variants.{One, Two}
-use Rattle.witness.specs.Goals.{entryOf, movedTo, enteredAt, goneAt, restAt, Ready, Says, Sums, Splits, Goes}
+use Rattle.witness.specs.Goals.{entryOf, movedTo, enteredAt, goneAt, restAt, Ready, Decides, Sums, Splits, Goes}
 use Rattle.witness.specs.Plan.{rulesIn, endsIn, ruleIn}
 
 -- The test of an equation answers it.
-pub says-equal : (x y z : ℕ) → x ≡ z → Says (eqb x y) (z ≡ y)
+pub says-equal : (x y z : ℕ) → x ≡ z → Decides (eqb x y) (z ≡ y)
 says-equal x y z e =
     rw (← e)
     (elim (ℕ-discrete x y) [
@@ -23,7 +23,7 @@ says-equal x y z e =
     ])
 
 -- An answer to the last of several facts, where the others hold.
-pub says-second : {P : Type 0} (x y z : ℕ) → P → x ≡ z → Says (eqb x y) (P × (z ≡ y))
+pub says-second : {P : Type 0} (x y z : ℕ) → P → x ≡ z → Decides (eqb x y) (P × (z ≡ y))
 says-second x y z p e =
     rw (← e)
     (elim (ℕ-discrete x y) [
@@ -31,13 +31,13 @@ says-second x y z p e =
       | no f ↦ rw (ne-eqb x y f) (λ r. f (r .1))
     ])
 
-pub says-third : {P Q : Type 0} (R : Type 0) (b : Bool) → P → Q → Says b R → Says b (P × Q × R)
+pub says-third : {P Q : Type 0} (R : Type 0) (b : Bool) → P → Q → Decides b R → Decides b (P × Q × R)
 says-third R true p q r = (p, q, r)
 says-third R false p q r = λ s. r (s .2)
 
 -- Two counts make a sum, by the test of the second.
 pub says-sum : {P : Type 0} (x y a b count : ℕ) → P → x ≡ a → y ≡ b → x ≤ count
-    → Says (eqb y (count - x)) (P × (a + b ≡ count))
+    → Decides (eqb y (count - x)) (P × (a + b ≡ count))
 says-sum x y a b count p e f h =
     rw (← e, ← f)
     (elim (ℕ-discrete y (count - x)) [
@@ -55,7 +55,7 @@ no-way tab plan g below count r above none l (Splits.at y h s) = none y (omega a
 -- A pair can be had in just so many steps if the search for its middle finds one.
 pub says-splits : (tab plan : List ℕ) (g : Goal) (below count r : ℕ)
     → ((4 ≤ g .dest) × (entryOf tab plan g ≡ count) → ⊥) → (r < 12 → Sums tab plan g below count r)
-    → ((y : ℕ) → y < r → Sums tab plan g below count y → ⊥) → Says (ltb r 12) (Splits tab plan g below count)
+    → ((y : ℕ) → y < r → Sums tab plan g below count y → ⊥) → Decides (ltb r 12) (Splits tab plan g below count)
 says-splits tab plan g below count r above sums none =
     elim (decLt r 12) [
       | yes h ↦ rw (lt-ltb r 12 h) (Splits.at r h (sums h))

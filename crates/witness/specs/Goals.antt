@@ -70,9 +70,9 @@ pub record Ready (table plan : List ℕ) (goal : Goal) : Type 0 where
   pub fits : GoalFits goal
 
 -- An answer yes or no to whether something holds.
-abbrev pub Says : Bool → Type 0 → Type 0
-Says true P = P
-Says false P = P → ⊥
+abbrev pub Decides : Bool → Type 0 → Type 0
+Decides true P = P
+Decides false P = P → ⊥
 
 module _ (table plan : List ℕ) where
   -- The two parts of a pair, with its first symbol gone at control y, have just so many steps together.

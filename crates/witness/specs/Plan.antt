@@ -52,22 +52,22 @@ ruleFrom plan at =
     }
 
 -- The three bytes of a right side: its number of symbols, and the symbols.
-unfoldable pub rightBytes : Right → List ℕ
-rightBytes Remove = 0 ∷ 0 ∷ 0 ∷ []
-rightBytes (Swap a) = 1 ∷ a .0 ∷ 0 ∷ []
-rightBytes (Push a b) = 2 ∷ a .0 ∷ b .0 ∷ []
+unfoldable pub planRight : Right → List ℕ
+planRight Remove = 0 ∷ 0 ∷ 0 ∷ []
+planRight (Swap a) = 1 ∷ a .0 ∷ 0 ∷ []
+planRight (Push a b) = 2 ∷ a .0 ∷ b .0 ∷ []
 
 -- The six bytes of a rule.
-abbrev pub ruleBytes : Rule → List ℕ
-ruleBytes r = r .before .0 ∷ r .symbol .0 ∷ r .after .0 ∷ rightBytes (r .right)
+abbrev pub planRule : Rule → List ℕ
+planRule r = r .before .0 ∷ r .symbol .0 ∷ r .after .0 ∷ planRight (r .right)
 
 -- Rule number r.
 abbrev pub ruleIn : List ℕ → ℕ → Rule
 ruleIn plan r = ruleFrom plan (8 + 6 * r)
 
 -- The first seven bytes of a plan: G, the thread's first turn, its first two turn ends along a line, and its rule count.
-abbrev pub headBytes : ThreadId → ℕ → List ℕ → ℕ → List ℕ
-headBytes id g line count =
+abbrev pub planHead : ThreadId → ℕ → List ℕ → ℕ → List ℕ
+planHead id g line count =
     g
     ∷ turnOf id 0
     ∷ endsOf id line 0 .leave

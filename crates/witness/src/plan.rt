@@ -17,7 +17,7 @@ ghost use Rattle.model.specs.Fits.{ThreadFits};
 ghost use Rattle.model.specs.Lines.{digits};
 ghost use Rattle.model.specs.Rules.{ruleAt};
 ghost use Rattle.costs.specs.Ends.{endsOf};
-ghost use Rattle.witness.specs.Plan.{planSize, statesIn, endsIn, rightIn, ruleIn, ruleBytes, headBytes, InRange, Planned};
+ghost use Rattle.witness.specs.Plan.{planSize, statesIn, endsIn, rightIn, ruleIn, planRule, planHead, InRange, Planned};
 
 // How many bytes a plan has: eight, and six for each of 64 rules.
 pub const PLAN_SIZE: usize = 392;
@@ -87,7 +87,7 @@ fn put_head(plan: &mut [u8], count: usize, g: usize, n: usize, id: ThreadId, v: 
         (7 ≤ length (now plan)) × (count ≤ 64) × (1 ≤ g) × (g ≤ 4) × (n ≤ 2) × (v < g ^ (2 * suc n))
         ⌝ }
     ensures { λ _. ⌜
-        now (plan .exit) ≡ sets (now (plan .entry)) 0 (headBytes id g (digits g (2 * suc n) v) count)
+        now (plan .exit) ≡ sets (now (plan .entry)) 0 (planHead id g (digits g (2 * suc n) v) count)
         ⌝ }
 {
     let a = turn_of(id, 0);
@@ -129,7 +129,7 @@ fn put_rules(plan: &mut [u8], th: Thread)
 // A rule in six bytes.
 fn put_rule(plan: &mut [u8], at: usize, rule: Rule)
     requires { ⌜ at + 6 ≤ length (now plan) ⌝ }
-    ensures { λ _. ⌜ now (plan .exit) ≡ sets (now (plan .entry)) at (ruleBytes rule) ⌝ }
+    ensures { λ _. ⌜ now (plan .exit) ≡ sets (now (plan .entry)) at (planRule rule) ⌝ }
 {
     put_three(plan, at, rule.before.0, rule.symbol.0, rule.after.0);
     let right = rule.right;

@@ -12,7 +12,7 @@ ghost use Prim.Native.Nat.{ℕ, _+_, _≤_, _<_};
 ghost use Rattle.model.specs.Fits.{RuleFits, RightFits};
 ghost use Rattle.model.specs.Schedules.{mostSteps};
 ghost use Rattle.costs.specs.Lanes.{endLane};
-ghost use Rattle.witness.specs.Goals.{entryOf, Ready, Says, Sums, Splits, TightBy, Tight};
+ghost use Rattle.witness.specs.Goals.{entryOf, Ready, Decides, Sums, Splits, TightBy, Tight};
 ghost use Rattle.witness.specs.Plan.{rulesIn, ruleIn, endsIn, InRange};
 
 // The first rule that is a tight first step; the number of rules where none is.
@@ -42,7 +42,7 @@ pub fn first_rule(table: &[u64], plan: &[u8], goal: Goal, count: usize) -> usize
 // Whether a rule is a tight first step.
 fn suits(table: &[u64], plan: &[u8], goal: Goal, count: usize, rule: Rule) -> bool
     requires { ⌜ Ready (now table) (now plan) goal ⌝ ∗ ⌜ (0 < count) × (count ≤ mostSteps) × RuleFits 4 rule ⌝ }
-    ensures { λ r. ⌜ Says r (Tight (now (table .entry)) (now (plan .entry)) goal count rule) ⌝ }
+    ensures { λ r. ⌜ Decides r (Tight (now (table .entry)) (now (plan .entry)) goal count rule) ⌝ }
 {
     if rule.before.0 as usize != goal.shared {
         return false;
@@ -58,7 +58,7 @@ fn suits(table: &[u64], plan: &[u8], goal: Goal, count: usize, rule: Rule) -> bo
 // The same of a rule that applies, by its right side.
 fn suits_by(table: &[u64], plan: &[u8], goal: Goal, count: usize, h: usize, right: Right) -> bool
     requires { ⌜ Ready (now table) (now plan) goal ⌝ ∗ ⌜ (0 < count) × (count ≤ mostSteps) × (h < 4) × RightFits right ⌝ }
-    ensures { λ r. ⌜ Says r (TightBy (now (table .entry)) (now (plan .entry)) goal count h right) ⌝ }
+    ensures { λ r. ⌜ Decides r (TightBy (now (table .entry)) (now (plan .entry)) goal count h right) ⌝ }
 {
     match right {
         Right::Remove => removes(goal, count, h),
@@ -75,7 +75,7 @@ fn suits_by(table: &[u64], plan: &[u8], goal: Goal, count: usize, h: usize, righ
 
 // Whether to remove the symbol is all that a goal needs.
 fn removes(goal: Goal, count: usize, h: usize) -> bool
-    ensures { λ r. ⌜ Says r ((count ≡ 1) × (goal .until ≡ goal .passed) × (goal .dest ≡ h)) ⌝ }
+    ensures { λ r. ⌜ Decides r ((count ≡ 1) × (goal .until ≡ goal .passed) × (goal .dest ≡ h)) ⌝ }
 {
     if count != 1 {
         return false;
@@ -89,7 +89,7 @@ fn removes(goal: Goal, count: usize, h: usize) -> bool
 // Whether a pair can be had in just so many steps.
 fn splits(table: &[u64], plan: &[u8], goal: Goal, below: usize, count: usize) -> bool
     requires { ⌜ Ready (now table) (now plan) goal ⌝ ∗ ⌜ (below ≤ 16) × (count ≤ mostSteps) ⌝ }
-    ensures { λ r. ⌜ Says r (Splits (now (table .entry)) (now (plan .entry)) goal below count) ⌝ }
+    ensures { λ r. ⌜ Decides r (Splits (now (table .entry)) (now (plan .entry)) goal below count) ⌝ }
 {
     if above(table, plan, goal, count) {
         return true;
@@ -100,7 +100,7 @@ fn splits(table: &[u64], plan: &[u8], goal: Goal, below: usize, count: usize) ->
 // Whether a pair can be had without touching its second symbol.
 pub fn above(table: &[u64], plan: &[u8], goal: Goal, count: usize) -> bool
     requires { ⌜ Ready (now table) (now plan) goal ⌝ }
-    ensures { λ r. ⌜ Says r ((4 ≤ goal .dest) × (entryOf (now (table .entry)) (now (plan .entry)) goal ≡ count)) ⌝ }
+    ensures { λ r. ⌜ Decides r ((4 ≤ goal .dest) × (entryOf (now (table .entry)) (now (plan .entry)) goal ≡ count)) ⌝ }
 {
     if goal.dest < 4 {
         return false;
@@ -129,7 +129,7 @@ pub fn middle(table: &[u64], plan: &[u8], goal: Goal, below: usize, count: usize
 // Whether the first symbol of a pair can be gone at control y.
 fn sums(table: &[u64], plan: &[u8], goal: Goal, below: usize, count: usize, y: usize) -> bool
     requires { ⌜ Ready (now table) (now plan) goal ⌝ ∗ ⌜ (below ≤ 16) × (count ≤ mostSteps) × (y < 12) ⌝ }
-    ensures { λ r. ⌜ Says r (Sums (now (table .entry)) (now (plan .entry)) goal below count y) ⌝ }
+    ensures { λ r. ⌜ Decides r (Sums (now (table .entry)) (now (plan .entry)) goal below count y) ⌝ }
 {
     if byte(plan, 0) <= y % 4 {
         return false;

@@ -14,7 +14,7 @@ use Rattle.model.specs.declared.Rule.{Rule}
 use Rattle.model.specs.declared.Thread.{Thread}
 use Rattle.model.specs.Results.{firstOf}
 use Rattle.model.specs.Valid.{Valid, faultOf, headFault, threadFault, ruleFault, rightFault, symbolFault}
-use Rattle.writer.specs.Writer.{fieldOf, weightOf, symbolsOf, ruleOf, ruleListOf, rulesOf, mapOf, headBytes, recordOf}
+use Rattle.writer.specs.Writer.{fieldOf, weightOf, symbolsOf, ruleBytes, ruleListOf, rulesOf, mapOf, headBytes, recordOf}
 
 -- A field has at most one byte.
 field : (d v : ℕ) → length (fieldOf d v) ≤ 1
@@ -32,8 +32,8 @@ symbols (Swap a) = omega arith
 symbols (Push a b) = omega arith
 
 -- A rule has at most five.
-rule : (r : Rule) → length (ruleOf r) ≤ 5
-unfolding ruleOf
+rule : (r : Rule) → length (ruleBytes r) ≤ 5
+unfolding ruleBytes
 rule r = simp length-append (omega (arith, field (r .before .0) (r .after .0), symbols (r .right)))
 
 -- The first n rules.
@@ -84,5 +84,5 @@ unfolding longest full faultOf firstOf headFault threadFault ruleFault rightFaul
 longest-valid = refl
 
 pub longest-length : length (recordOf longest) ≡ 649
-unfolding longest full recordOf mapOf weightOf fieldOf rulesOf ruleListOf ruleOf headBytes
+unfolding longest full recordOf mapOf weightOf fieldOf rulesOf ruleListOf ruleBytes headBytes
 longest-length = refl

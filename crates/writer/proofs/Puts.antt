@@ -11,7 +11,7 @@ use Rattle.model.specs.declared.Rule.{Rule}
 use Rattle.model.specs.Rules.{zeroRule}
 use Rattle.model.proofs.Stores.{sets-append}
 use Rattle.writer.specs.Put.{Put}
-use Rattle.writer.specs.Writer.{fieldOf, ruleOf, ruleListOf}
+use Rattle.writer.specs.Writer.{fieldOf, ruleBytes, ruleListOf}
 
 -- Nothing put.
 pub nothing : (l : List ℕ) (i : ℕ) → Put l l i i []
@@ -37,19 +37,19 @@ present d v h = rw (ne-eqb v d h)
 
 -- One rule more of a list adds its bytes at the end ..
 pub one-more : (i n : ℕ) (l : List Rule) → i < n → n ≤ length l
-    → ruleListOf (take (i + 1) l) ≡ ruleListOf (take i l) ++ ruleOf (getD l i zeroRule)
+    → ruleListOf (take (i + 1) l) ≡ ruleListOf (take i l) ++ ruleBytes (getD l i zeroRule)
 unfolding ruleListOf
 one-more i n l h k = rw add-one (go i l (omega arith))
   where
     go : (i : ℕ) (l : List Rule) → i < length l
-        → ruleListOf (take (suc i) l) ≡ ruleListOf (take i l) ++ ruleOf (getD l i zeroRule)
+        → ruleListOf (take (suc i) l) ≡ ruleListOf (take i l) ++ ruleBytes (getD l i zeroRule)
     go i [] h = absurd (omega arith)
     go zero (r ∷ l) h = append-nil _
     go (suc i) (r ∷ l) h = rw (go i l (omega arith), append-assoc)
 
 -- .. and they are among the bytes of any longer part.
 pub among : (i n : ℕ) (l : List Rule) → i < n → n ≤ length l
-    → length (ruleListOf (take i l)) + length (ruleOf (getD l i zeroRule)) ≤ length (ruleListOf (take n l))
+    → length (ruleListOf (take i l)) + length (ruleBytes (getD l i zeroRule)) ≤ length (ruleListOf (take n l))
 unfolding ruleListOf
 among i zero l h k = absurd (omega arith)
 among i (suc n) [] h k = absurd (omega arith)

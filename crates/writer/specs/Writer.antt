@@ -31,15 +31,15 @@ symbolBits (Swap a) = 2
 symbolBits (Push a b) = 6
 
 -- A rule: map, before state and symbol in one byte, the after state unless it is the before state, the new symbols.
-unfoldable pub ruleOf : Rule → List ℕ
-ruleOf r =
+unfoldable pub ruleBytes : Rule → List ℕ
+ruleBytes r =
     (weightOf 0 (r .before .0) (r .after .0) + symbolBits (r .right)) ∷ (r .before .0 * 16 + r .symbol .0) ∷
     fieldOf (r .before .0) (r .after .0) ++ symbolsOf (r .right)
 
 -- Rules one after another.
 unfoldable pub ruleListOf : List Rule → List ℕ
 ruleListOf [] = []
-ruleListOf (r ∷ rs) = ruleOf r ++ ruleListOf rs
+ruleListOf (r ∷ rs) = ruleBytes r ++ ruleListOf rs
 
 -- The rules of a thread: their count and then each, or nothing where there is none.
 unfoldable pub rulesOf : Thread → List ℕ

@@ -10,7 +10,7 @@ ghost use Prim.Native.Nat.{_+_, _≤_};
 ghost use lib.Dec.{eqb};
 ghost use lib.ListN.{length, take, drop};
 ghost use Rattle.writer.specs.Put.{Put, Halves, Small};
-ghost use Rattle.writer.specs.Writer.{fieldOf, symbolsOf, symbolBits, ruleOf, rulesOf, mapOf, headBytes, recordOf};
+ghost use Rattle.writer.specs.Writer.{fieldOf, symbolsOf, symbolBits, ruleBytes, rulesOf, mapOf, headBytes, recordOf};
 
 // A whole record, from the front of the buffer.
 pub fn put_record(s: &mut [u8], m: Model) -> usize
@@ -91,8 +91,8 @@ fn put_rules(s: &mut [u8], at: usize, t: Thread) -> usize
 
 // A rule: its map, its before state and symbol in one byte, and what is not said by absence.
 fn put_rule(s: &mut [u8], at: usize, r: Rule) -> usize
-    requires { ⌜ Halves r × (at + length (ruleOf r) ≤ length (now s)) ⌝ }
-    ensures { λ n. ⌜ Put (now (s .entry)) (now (s .exit)) at n (ruleOf r) ⌝ }
+    requires { ⌜ Halves r × (at + length (ruleBytes r) ≤ length (now s)) ⌝ }
+    ensures { λ n. ⌜ Put (now (s .entry)) (now (s .exit)) at n (ruleBytes r) ⌝ }
 {
     let before = r.before.0;
     let after = r.after.0;

@@ -101,7 +101,7 @@ returns-4 c =
 returns-5 : tie.Need-returns-5
 returns-5 c =
     let n = was-refused _ (c .before .before .before .read .ensures) (c .before .answer .given .1) in
-    rw (n .read) (says-refused _ (n .inRange), refl, refl)
+    rw (n .read) (says-refused _ (n .fits), refl, refl)
 
 pub turncheck-judge-spec : {M : Type 1} → statement M
 turncheck-judge-spec =

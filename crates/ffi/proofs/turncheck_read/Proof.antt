@@ -24,7 +24,7 @@ returns c =
 returns-2 : tie.Need-returns-2
 returns-2 c =
     let n = was-refused _ (c .before .before .before .read .ensures) (c .before .answer .given .1) in
-    rw (n .read) (says-refused _ (n .inRange))
+    rw (n .read) (says-refused _ (n .fits))
 
 pub turncheck-read-spec : {M : Type 1} → statement M
 turncheck-read-spec =

@@ -77,7 +77,7 @@ returns-3 c =
 returns-4 : tie.Need-returns-4
 returns-4 c =
     let n = was-refused _ (c .before .before .before .read .ensures) (c .before .answer .given .1) in
-    rw (n .read) (says-refused _ (n .inRange))
+    rw (n .read) (says-refused _ (n .fits))
 
 pub turncheck-replay-spec : {M : Type 1} → statement M
 turncheck-replay-spec =

@@ -65,7 +65,7 @@ returns-2 c =
 returns-3 : tie.Need-returns-3
 returns-3 c =
     let n = was-refused _ (c .before .before .before .read .ensures) (c .before .answer .given .1) in
-    rw (n .read) (says-refused _ (n .inRange), refl)
+    rw (n .read) (says-refused _ (n .fits), refl)
 
 pub turncheck-write-spec : {M : Type 1} → statement M
 turncheck-write-spec =

@@ -2,7 +2,7 @@
 use borrow.Author.Needs.{needs}
 use native.Mathlib.Omega.{arith}
 use lib.ListN.{length-append}
-use Rattle.writer.specs.Writer.{ruleOf, weightOf}
+use Rattle.writer.specs.Writer.{ruleBytes, weightOf}
 use Rattle.writer.proofs.Puts.{_then_}
 use Rattle.writer.proofs.put_rule.Statement.{statement}
 use Rattle.writer.proofs.put_rule.Tie as tie
@@ -30,7 +30,7 @@ add-map : tie.Need-add-map
 add-map c = search needs
 
 put-byte-requires : tie.Need-put-byte-requires
-unfolding ruleOf
+unfolding ruleBytes
 put-byte-requires c κs = omega (arith, simp length-append at (map-from c .pre .1))
 
 mul-put-byte : tie.Need-mul-put-byte
@@ -40,22 +40,22 @@ add-put-byte : tie.Need-add-put-byte
 add-put-byte c = search needs
 
 put-byte-requires-2 : tie.Need-put-byte-requires-2
-unfolding ruleOf
+unfolding ruleBytes
 put-byte-requires-2 c κs = omega (arith, simp length-append at (pair-from (c .before) .pre .1))
 
 put-field-requires : tie.Need-put-field-requires
-unfolding ruleOf
+unfolding ruleBytes
 put-field-requires c κs = omega (arith, simp length-append at (field-from c .pre .1))
 
 put-symbols-requires : tie.Need-put-symbols-requires
-unfolding ruleOf
+unfolding ruleBytes
 put-symbols-requires c κs = omega (arith, simp length-append at (symbols-from c .pre .1))
 
 same-length : tie.Need-same-length
 same-length c = search needs
 
 returns : tie.Need-returns
-unfolding ruleOf weightOf
+unfolding ruleBytes weightOf
 returns c =
     let symbols = c .before .before in
     let field = symbols .before .before .before .before in

@@ -1,7 +1,7 @@
 -- `put_rule` meets its contract: the states and the symbol, then the right side by its kind.
 use borrow.Author.Needs.{needs}
 use Rattle.model.specs.declared.Right.the-variants.{Remove, Swap, Push}
-use Rattle.witness.specs.Plan.{rightBytes}
+use Rattle.witness.specs.Plan.{planRight}
 use Rattle.witness.proofs.Plans.{rule-stored}
 use Rattle.witness.proofs.plan.put_rule.Statement.{statement}
 use Rattle.witness.proofs.plan.put_rule.Tie as tie
@@ -40,7 +40,7 @@ same-length : tie.Need-same-length
 same-length c = search needs
 
 returns : tie.Need-returns
-unfolding rightBytes
+unfolding planRight
 returns c =
     let first = c .before .before .before .before .before .before .before .before in
     let a = first .before .before .before .args in
@@ -51,7 +51,7 @@ same-length-2 : tie.Need-same-length-2
 same-length-2 c = search needs
 
 returns-2 : tie.Need-returns-2
-unfolding rightBytes
+unfolding planRight
 returns-2 c =
     let first = c .before .before .before .before .before .before .before .before .before in
     let a = first .before .before .before .args in
@@ -62,7 +62,7 @@ same-length-3 : tie.Need-same-length-3
 same-length-3 c = search needs
 
 returns-3 : tie.Need-returns-3
-unfolding rightBytes
+unfolding planRight
 returns-3 c =
     let first = c .before .before .before .before .before .before .before .before .before in
     let a = first .before .before .before .args in

@@ -1,5 +1,5 @@
--- Places: what is known of a run so far. The next places are computed, and a run that a place describes comes to one that a
--- next place describes, whatever it does.
+-- Abstract configurations: what is known of a run so far. The next ones are computed, and a run that one of them describes comes to
+-- one that a next one describes, whatever it does.
 use mathlib.Core.Bool.{Bool, true, false, _&&_, cond}
 use mathlib.Core.List.{List, [], _∷_, _++_, map}
 use mathlib.Core.Path.{_≡_, refl, sym, ap, _∙_}
@@ -21,28 +21,28 @@ use Rattle.cases.proofs.Scans.{all, all-append, all-map, alike, alike-s
 use Rattle.cases.proofs.Shapes.{Shape, Matches, under, under-matches, fired, fired-matches}
 
 -- The states at which turns ended, a number of steps that were at least made, the shared state, and what is known of the stacks.
-pub record Place : Type 0 where
+pub record Abstract : Type 0 where
   pub line : List ℕ
   pub steps : ℕ
   pub shared : ℕ
   pub a : Shape
   pub b : Shape
 
--- A place describes a run so far: where its turns ended, its steps, and the shared state and stacks it has come to.
-pub record Describes (c : Place) (before : List ℕ) (n q : ℕ) (σ : Stacks) : Type 0 where
+-- An abstract configuration describes a run so far: where its turns ended, its steps, and the shared state and stacks it has come to.
+pub record Describes (c : Abstract) (before : List ℕ) (n q : ℕ) (σ : Stacks) : Type 0 where
   pub line : c .line ≡ before
   pub steps : c .steps ≤ n
   pub shared : c .shared ≡ q
   pub a : Matches (c .a) (σ .a)
   pub b : Matches (c .b) (σ .b)
 
--- One place says no less than another.
-abbrev pub within : Place → Place → Bool
+-- One abstract configuration says no less than another.
+abbrev pub within : Abstract → Abstract → Bool
 within c d =
     eqb (c .shared) (d .shared) && leb (d .steps) (c .steps) && under (c .a) (d .a) && under (c .b) (d .b) &&
     alike (c .line) (d .line)
 
-pub within-describes : (c d : Place) {line : List ℕ} {n q : ℕ} {σ : Stacks} → T (within c d)
+pub within-describes : (c d : Abstract) {line : List ℕ} {n q : ℕ} {σ : Stacks} → T (within c d)
     → Describes c line n q σ → Describes d line n q σ
 within-describes c d {σ = σ} t h =
     let w = simp tests at t in
@@ -54,40 +54,40 @@ within-describes c d {σ = σ} t h =
       b = under-matches (c .b) (d .b) (σ .b) (w .0 .1) (h .b);
     }
 
--- A step more. Steps are counted up to a limit, so that there are few places, however long the runs.
+-- A step more. Steps are counted up to a limit, so that there are few abstract configurations, however long the runs.
 abbrev pub counted : ℕ → ℕ → ℕ
 counted limit n = cond (ltb n limit) (suc n) n
 
 -- What is known of a thread's stack.
-abbrev pub shapeOf : ThreadId → Place → Shape
+abbrev pub shapeOf : ThreadId → Abstract → Shape
 shapeOf A c = c .a
 shapeOf B c = c .b
 
--- The place after a step of a thread to state q that leaves its stack so.
-abbrev pub moved : ℕ → ThreadId → Place → ℕ → Shape → Place
+-- The abstract configuration after a step of a thread to state q that leaves its stack so.
+abbrev pub moved : ℕ → ThreadId → Abstract → ℕ → Shape → Abstract
 moved limit A c q s = record { line = c .line; steps = counted limit (c .steps); shared = q; a = s; b = c .b }
 moved limit B c q s = record { line = c .line; steps = counted limit (c .steps); shared = q; a = c .a; b = s }
 
--- The places after a step by a rule.
-abbrev pub byRule : ℕ → ThreadId → Place → Rule → List Place
+-- The abstract configurations after a step by a rule.
+abbrev pub byRule : ℕ → ThreadId → Abstract → Rule → List Abstract
 byRule limit i c r =
     cond (eqb (r .before .0) (c .shared)) (map (moved limit i c (r .after .0)) (fired (r .symbol .0) (r .right) (shapeOf i c))) []
 
--- The places after a step by one of the first n rules.
-abbrev pub byRules : ℕ → ThreadId → Place → Thread → ℕ → List Place
+-- The abstract configurations after a step by one of the first n rules.
+abbrev pub byRules : ℕ → ThreadId → Abstract → Thread → ℕ → List Abstract
 byRules limit i c t zero = []
 byRules limit i c t (suc r) = byRule limit i c (ruleAt t r) ++ byRules limit i c t r
 
--- The places after a step in turn t.
-abbrev pub inTurn : ℕ → Model → Place → ℕ → List Place
+-- The abstract configurations after a step in turn t.
+abbrev pub inTurn : ℕ → Model → Abstract → ℕ → List Abstract
 inTurn limit m c t = byRules limit (ownerOf t) c (threadOf (ownerOf t) m) (threadOf (ownerOf t) m .count)
 
--- The place after the turn's end.
-abbrev pub ended : Place → Place
+-- The abstract configuration after the turn's end.
+abbrev pub ended : Abstract → Abstract
 ended c = record { line = c .line ++ (c .shared ∷ []); steps = c .steps; shared = c .shared; a = c .a; b = c .b }
 
--- The next places: the turn ends, or its thread makes a step. After the last turn there is none.
-unfoldable pub next : Model → ℕ → Place → List Place
+-- The next abstract configurations: the turn ends, or its thread makes a step. After the last turn there is none.
+unfoldable pub next : Model → ℕ → Abstract → List Abstract
 next m limit c =
     let on = ended c ∷ inTurn limit m c (length (c .line)) in cond (ltb (length (c .line)) (2 * m .k)) on []
 
@@ -99,28 +99,28 @@ counted-most limit k n h = go (ltb k limit)
     go true = omega arith
     go false = omega arith
 
-moved-describes : (limit : ℕ) (i : ThreadId) (c : Place) (h : ℕ) (s : Shape) (w : List ℕ) {line : List ℕ} {n q : ℕ} {σ : Stacks}
+moved-describes : (limit : ℕ) (i : ThreadId) (c : Abstract) (h : ℕ) (s : Shape) (w : List ℕ) {line : List ℕ} {n q : ℕ} {σ : Stacks}
     → Describes c line n q σ → Matches s w → Describes (moved limit i c h s) line (suc n) h (withStack i w σ)
 moved-describes limit A c h s w {n = n} p o =
     record { line = p .line; steps = counted-most limit (c .steps) n (p .steps); shared = refl; a = o; b = p .b }
 moved-describes limit B c h s w {n = n} p o =
     record { line = p .line; steps = counted-most limit (c .steps) n (p .steps); shared = refl; a = p .a; b = o }
 
-shape-matches : (i : ThreadId) (c : Place) {line : List ℕ} {n q : ℕ} {σ : Stacks} → Describes c line n q σ
+shape-matches : (i : ThreadId) (c : Abstract) {line : List ℕ} {n q : ℕ} {σ : Stacks} → Describes c line n q σ
     → Matches (shapeOf i c) (stackOf i σ)
 shape-matches A c p = p .a
 shape-matches B c p = p .b
 
-module _ (f : Place → Bool) (limit : ℕ) (i : ThreadId) (c : Place) {line : List ℕ} {n q : ℕ} {σ : Stacks}
+module _ (f : Abstract → Bool) (limit : ℕ) (i : ThreadId) (c : Abstract) {line : List ℕ} {n q : ℕ} {σ : Stacks}
     (p : Describes c line n q σ) where
-  -- A place after a step by a rule: it passes a test that all places after the rule pass, and describes the run.
+  -- One after a step by a rule: it passes a test that all of those after the rule pass, and describes the run.
   abbrev After : Rule → List ℕ → Type 0
-  After r w = (d : Place) × T (f d) × Describes d line (suc n) (r .after .0) (withStack i (put (r .right) w) σ)
+  After r w = (d : Abstract) × T (f d) × Describes d line (suc n) (r .after .0) (withStack i (put (r .right) w) σ)
 
   by-rule : (r : Rule) (γ : ℕ) (w : List ℕ) → stackOf i σ ≡ γ ∷ w → r .before .0 ≡ q → r .symbol .0 ≡ γ
       → T (all f (byRule limit i c r)) → After r w
   by-rule r γ w e h l t =
-      let to : Shape → Place = moved limit i c (r .after .0) in
+      let to : Shape → Abstract = moved limit i c (r .after .0) in
       let shapes : List Shape = fired (r .symbol .0) (r .right) (shapeOf i c) in
       let same = passed (eqb (r .before .0) (c .shared)) (equal (r .before .0) (c .shared) .1 (h ∙ sym (p .shared))) in
       let u : T (all f (map to shapes)) = rw same at t in
@@ -138,9 +138,9 @@ module _ (f : Place → Bool) (limit : ℕ) (i : ThreadId) (c : Place) {line : L
         | no s ↦ by-rules t last r γ w (omega arith) e h l (v .1)
       ]
 
-module _ (f : Place → Bool) (m : Model) (limit : ℕ) (c : Place) {line : List ℕ} {n q : ℕ} {σ : Stacks}
+module _ (f : Abstract → Bool) (m : Model) (limit : ℕ) (c : Abstract) {line : List ℕ} {n q : ℕ} {σ : Stacks}
     (p : Describes c line n q σ) (more : length line < 2 * m .k) (u : T (all f (next m limit c))) where
-  -- A test that all next places pass, where a turn is left.
+  -- A test that all next abstract configurations pass, where a turn is left.
   onward : T (f (ended c)) × T (all f (inTurn limit m c (length line)))
   unfolding next
   onward =
@@ -155,7 +155,7 @@ module _ (f : Place → Bool) (m : Model) (limit : ℕ) (c : Place) {line : List
   -- .. or its thread makes a step.
   pub next-move : (t : ℕ) → length line ≡ t → (r γ : ℕ) (w : List ℕ) → stackOf (ownerOf t) σ ≡ γ ∷ w
       → T (applies (threadOf (ownerOf t) m) r q γ)
-      → (d : Place) × T (f d)
+      → (d : Abstract) × T (f d)
       × Describes d line (suc n) (ruleOf m t r .after .0) (withStack (ownerOf t) (put (ruleOf m t r .right) w) σ)
   unfolding applies
   next-move t z r γ w e a =
