@@ -8,7 +8,7 @@ use Rattle.model.specs.declared.Model.{Model}
 use Rattle.model.specs.declared.Right.{Right}
 use Rattle.model.specs.declared.Rule.{Rule}
 use Rattle.model.specs.declared.Thread.{Thread}
-use Rattle.model.specs.Results.{Result, refused, accepted}
+use Rattle.model.specs.Results.{Result, refused, accepted, andThen}
 use Rattle.model.specs.Rules.{zeroRule}
 use Rattle.record.specs.declared.Answer.the-variants.{Accepted}
 use Rattle.record.specs.declared.Answer.the-variants as answer
@@ -28,7 +28,7 @@ use Rattle.record.specs.declared.Taken.{Taken}
 use Rattle.record.specs.declared.Taken.the-variants as taken
 use Rattle.record.specs.Reader.{Read, Head}
 
--- A field.
+-- A field: its byte.
 abbrev pub partOf : Part → Result (ℕ × ℕ)
 partOf (part.Read c) = accepted (c .byte, c .at)
 partOf (part.Refused n) = refused n
@@ -56,7 +56,7 @@ fieldsOf f =
       b = f .b;
     }
 
--- A head.
+-- A head: its fields.
 abbrev pub headPartOf : HeadPart → Result (Head × ℕ)
 headPartOf (headPart.Read f) = accepted (fieldsOf f, f .at)
 headPartOf (headPart.Refused n) = refused n
@@ -66,22 +66,21 @@ abbrev pub takenWith : {A : Type 0} → A → Taken → Result (A × ℕ)
 takenWith a (taken.At n) = accepted (a, n)
 takenWith a (taken.Refused n) = refused n
 
--- The rules of a list.
+-- The rules that a list holds.
 abbrev pub listed : RuleList → List Rule
 listed l = take (l .count) (l .rules)
 
--- A list of rules.
+-- A list of rules: those it holds.
 abbrev pub listOf : RuleList → Result (List Rule × ℕ)
 listOf l = takenWith (listed l) (l .answer)
 
--- A record at the front.
+-- A record at the front: its model.
 abbrev pub frontOf : Front → Result (Model × ℕ)
 frontOf f = takenWith (f .model) (f .answer)
 
 -- What a value and the place after it stand for over the bytes: the value and the bytes left.
 abbrev pub over : {A : Type 0} → List ℕ → Result (A × ℕ) → Read A
-over s (refused n) = refused n
-over s (accepted x) = accepted (x .0, drop (x .1) s)
+over s r = andThen r (λ x. accepted (x .0, drop (x .1) s))
 
 -- The place, 0 where there is none.
 abbrev pub placeOf : {A : Type 0} → Result (A × ℕ) → ℕ

@@ -25,7 +25,7 @@ places c =
     let fields = c .before .before .before .good .0 .0 .1 .1 .1 .1 in
     let a = fields .0 in
     let b = fields .1 .0 in
-    record { a = search (length-mapped, needs, a); b = search (length-mapped, needs, b) }
+    record { a = search (length-mapped, needs); b = search (length-mapped, needs) }
 
 slice-aggregate-put-record : tie.Need-slice-aggregate-put-record
 slice-aggregate-put-record c = search needs
