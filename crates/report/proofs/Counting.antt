@@ -16,6 +16,7 @@ use Rattle.model.specs.Tables.{bitAt}
 use Rattle.model.proofs.Positions.{digits-position}
 use Rattle.writer.specs.Put.{Put}
 use Rattle.writer.proofs.Puts.{nothing, _then_}
+use Rattle.costs.specs.Lanes.{fullLines}
 use Rattle.report.specs.Table.{standing, Fills}
 use Rattle.report.specs.Text.{countOf, countLine, countLines}
 use Rattle.report.proofs.Sizes.{powers-low, count-short}
@@ -84,12 +85,12 @@ module _ {g longest : ℕ} {table s₀ s : List ℕ} {at next from n : ℕ} (d :
       (omega (arith, rw add-one at e, d .begins), d .fills .bits)
 
   -- .. there is room for its line ..
-  pub tabled-room : n < longest → {c w : ℕ} → c ≤ w → w ≤ 4096 → next + length (countLine (n + 1) c) ≤ length s
+  pub tabled-room : n < longest → {c w : ℕ} → c ≤ w → w ≤ fullLines → next + length (countLine (n + 1) c) ≤ length s
   tabled-room h {c} k l =
       omega (arith, count-short (n + 1) c (omega (arith, d .fills .most)) (omega arith), d .low, d .room, d .size)
 
   -- .. which is put ..
-  pub tabled-next : n < longest → {s′ : List ℕ} {next′ c w : ℕ} → w ≡ g ^ (n + 1) → w ≤ 4096 → c ≤ w
+  pub tabled-next : n < longest → {s′ : List ℕ} {next′ c w : ℕ} → w ≡ g ^ (n + 1) → w ≤ fullLines → c ≤ w
       → c ≡ countOf (λ v. bitAt table (from + v)) w → Put s s′ next next′ (countLine (n + 1) c)
       → Tabled g longest table s₀ s′ at next′ (from + w) (n + 1)
   unfolding powers

@@ -18,6 +18,7 @@ use Rattle.model.specs.declared.ThreadId.the-variants.{A, B}
 use Rattle.model.proofs.Inside.{applies-iff}
 use Rattle.model.proofs.Results.{through}
 use Rattle.model.proofs.Steps.{stepped}
+use Rattle.costs.specs.Lanes.{fullLines}
 use Rattle.report.specs.Prints.{longestText}
 use Rattle.report.specs.Text.{line, stepLine, stepLines, countLine, foundWord}
 use Rattle.report.proofs.Numbers.{digits-1, digits-2, digits-4, length-line}
@@ -55,7 +56,7 @@ found-short {m} {ss} {n} f l e h =
     simp (length-append, length-line) (omega arith)
 
 -- The line of a length.
-pub count-short : (n c : ℕ) → n < 10 → c ≤ 4096 → length (countLine n c) ≤ 7
+pub count-short : (n c : ℕ) → n < 10 → c ≤ fullLines → length (countLine n c) ≤ 7
 unfolding countLine
 count-short n c h k = simp (length-append, length-line) (omega (arith, digits-1 n h, digits-4 c (omega arith)))
 
