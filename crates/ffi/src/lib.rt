@@ -24,14 +24,6 @@ const STOPPED: u64 = 36;
 
 const REACHED: u64 = 37;
 
-// The number of a kind that carries x in its first field.
-fn with_field(kind: u64, x: u64) -> u64
-    requires { ⌜ (kind < 256) × (x < 65536) ⌝ }
-    ensures { λ r. ⌜ r ≡ packed kind x 0 0 ⌝ }
-{
-    kind + 65536 * x
-}
-
 // Reads a record: done where it is accepted.
 #[no_mangle]
 pub extern "C" fn turncheck_read(bytes: &[u8]) -> u64
@@ -116,4 +108,12 @@ pub extern "C" fn turncheck_replay(bytes: &[u8], schedule: &[u8]) -> u64
         },
         Answer::Refused(n) => n as u64,
     }
+}
+
+// The number of a kind that carries x in its first field.
+fn with_field(kind: u64, x: u64) -> u64
+    requires { ⌜ (kind < 256) × (x < 65536) ⌝ }
+    ensures { λ r. ⌜ r ≡ packed kind x 0 0 ⌝ }
+{
+    kind + 65536 * x
 }
