@@ -8,7 +8,7 @@ use lib.ListN.{length}
 use Rattle.model.specs.declared.Model.{Model}
 use Rattle.model.specs.Results.{refused, accepted, unless, refuse, firstOf}
 use Rattle.model.specs.Runs.{Leads}
-use Rattle.model.specs.Schedules.{bytesOf, stepsOf, mostBytes}
+use Rattle.model.specs.Schedules.{bytesOf, stepsOf, mostBytes, mostSteps}
 use Rattle.model.specs.Valid.{Valid, faultOf}
 use Rattle.model.specs.Walk.{Step, Walked, startOf, walk}
 use Rattle.replay.specs.declared.Replayed.{Replayed}
@@ -37,6 +37,6 @@ pub record Legally (m : Model) (bytes : List ℕ) (q : ℕ) (reached : Bool) : T
   pub valid : Valid m
   pub steps : List Step
   pub written : bytes ≡ bytesOf steps
-  pub most : length steps ≤ 4095
+  pub most : length steps ≤ mostSteps
   pub leads : Leads m steps q
   pub target : reached ≡ eqb q (m .target .0)
