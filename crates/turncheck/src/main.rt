@@ -10,9 +10,8 @@ enum Input {
     Failed,
 }
 
-// The longest record has 649 bytes, so 650 bytes of the input decide the answer: reading takes bytes from left to right, never
-// more than 649, and stops at the first fault. A fault among the first 649 bytes is the same whatever follows. Where there is
-// none, the record ends within them, and byte 650 is left over: refused by 6, as it is with all of the input.
+// 650 bytes of the input decide the answer: the longest record has 649, and reading stops at the first fault (a law of `record`,
+// `decided`).
 fn main() {
     let mut bytes = [0u8; 650];
     match read_all(&mut bytes) {
