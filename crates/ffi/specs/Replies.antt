@@ -66,24 +66,24 @@ pub record Says (r : ℕ) (a : Reply) : Type 0 where
   pub number : r ≡ numberOf a
   pub told : replyOf r ≡ a
 
--- Of writing a record.
+-- The reply to a call that writes a record.
 abbrev pub writeReply : Written → Reply
 writeReply (writing.Length n) = written n
 writeReply (writing.Refused n) = refused n
 
--- Of filling a line table.
+-- The reply to a call that fills a line table.
 abbrev pub linesReply : Outcome → Reply
 linesReply outcome.Done = done
 linesReply (outcome.Refused n) = refused n
 
--- Of judging.
+-- The reply to a call that judges.
 abbrev pub judgeReply : Judgement → Reply
 judgeReply judgement.Clear = clear
 judgeReply judgement.Long = long
 judgeReply (judgement.Found n) = found n
 judgeReply (judgement.Refused n) = refused n
 
--- Of replay.
+-- The reply to a call that replays a schedule.
 abbrev pub replayReply : Replayed → Reply
 replayReply (replayed.Accepted shared true) = reached (shared .0)
 replayReply (replayed.Accepted shared false) = stopped (shared .0)

@@ -24,8 +24,8 @@ pub record Shortest (m : Model) (n : ℕ) : Type 0 where
   pub steps : length schedule ≡ n
   pub least : AtLeast m n
 
--- Clear: no run reaches the target. Long: some run does, and each that does has more steps than a schedule may have.
--- Found n: a shortest run that does has n steps, and a schedule may have as many.
+-- Clear: no run reaches the target. Long: some run does, and each that does has more than 4,095 steps, the most that a schedule may
+-- have. Found n: a shortest run that does has n steps, at most 4,095.
 abbrev pub Judged : Model → Verdict → Type 0
 Judged m clear = (ss : List Step) → Reaches m ss → ⊥
 Judged m long = ((ss : List Step) × Reaches m ss) × AtLeast m (suc mostSteps)
