@@ -1,5 +1,4 @@
 -- A table written byte by byte from the front: the bytes up to one place hold their marks, and those beyond the table stay.
-use mathlib.Core.Bool.{Bool, true, false}
 use mathlib.Core.List.{List}
 use mathlib.Core.Logic.{_↔_, Iff·trans}
 use mathlib.Core.Path.{_≡_, refl, _∙_}
@@ -15,6 +14,7 @@ use Rattle.model.specs.Lines.{Line, bits, value, position, tableBits}
 use Rattle.model.specs.Runs.{Marked}
 use Rattle.model.specs.Tables.{bitAt, bytesFor, LineTable}
 use Rattle.model.proofs.Positions.{position-below, position-injective}
+use Rattle.model.proofs.Tests.{failed}
 use Rattle.costs.specs.Cost.{BothCosts}
 use Rattle.costs.proofs.Front.{Front, front-start, front-next}
 use Rattle.draw.specs.Marks.{padded, DrawnAt, Packs}
@@ -42,11 +42,6 @@ bit-written {bytes = bytes} w p h =
     let byte : p / 8 < bytes = omega arith in
     let place : 8 * (p / 8) + p % 8 ≡ p = omega arith in
     rw place at (w .front .below (p / 8) byte (p % 8) (omega arith))
-
--- A test that does not pass is false.
-failed : (test : Bool) → (T test → ⊥) → test ≡ false
-failed true h = absurd (h tt)
-failed false h = refl
 
 -- The place of a line is marked exactly if the line is.
 drawn-marked : (m : Model) (a b : List ℕ) → 1 ≤ m .k → BothCosts m a b → (line : List ℕ) → Line (m .g) (m .k) line

@@ -10,7 +10,7 @@ use lib.ListN.{length}
 use Rattle.model.specs.declared.Model.{Model}
 use Rattle.model.specs.Fits.{Fits}
 use Rattle.model.specs.Rules.{applies}
-use Rattle.model.specs.Schedules.{stepsOf}
+use Rattle.model.specs.Schedules.{stepsOf, mostBytes}
 use Rattle.model.specs.Results.{refused, accepted, need, andThen, unless, refuse, firstOf}
 use Rattle.model.specs.Tables.{tableFits}
 use Rattle.model.specs.Valid.{Valid, storeRefusal}
@@ -39,6 +39,7 @@ seven m room v = rw v (go room)
     go true = omega arith
     go false = omega arith
 
+-- What the call that writes answers: the refusal, or a length of at most 649.
 pub write-range : (m : Model) (size : ℕ) → Valid m → ReplyFits (writeReply (writtenOf m size))
 unfolding writtenOf
 write-range m size v =
@@ -53,6 +54,7 @@ write-range m size v =
 pub length-fits : (m : Model) (size : ℕ) {w : Written} {n : ℕ} → Valid m → w ≡ writtenOf m size → w ≡ written.Length n → n < 65536
 length-fits m size v e f = rw (sym e ∙ f) at (write-range m size v)
 
+-- What the call for the line table answers.
 pub lines-range : (m : Model) (size : ℕ) → Valid m → ReplyFits (linesReply (outcomeOf m size))
 lines-range m size v = go (storeRefusal m (tableFits m size)) (seven m (tableFits m size) v)
   where
@@ -60,6 +62,7 @@ lines-range m size v = go (storeRefusal m (tableFits m size)) (seven m (tableFit
     go zero h = tt
     go (suc n) h = (omega arith, omega arith)
 
+-- What the judge answers: the refusal, or steps that a schedule may have.
 pub judge-range : (m : Model) (lines schedule : ℕ) (j : Judgement) → Valid m → Answers m (refusalOf m lines schedule) j
     → ReplyFits (judgeReply j)
 unfolding refusalOf
@@ -67,7 +70,7 @@ judge-range m lines schedule judgement.Clear v a = tt
 judge-range m lines schedule judgement.Long v a = tt
 judge-range m lines schedule (judgement.Found n) v a = omega (arith, a .1 .0)
 judge-range m lines schedule (judgement.Refused n) v a =
-    let low : refusalOf m lines schedule ≤ 7 = seven m (tableFits m lines && leb 8190 schedule) v in
+    let low : refusalOf m lines schedule ≤ 7 = seven m (tableFits m lines && leb mostBytes schedule) v in
     (omega (arith, a .0, a .1), omega (arith, a .1, low))
 
 -- A walk is refused by 9 or 10, or ends in a state below g.
@@ -103,6 +106,7 @@ module _ {m : Model} (f : Fits m) where
   walks [] c h = h
   walks (s ∷ ss) c h = onward (stepFrom m c s) (λ d. walk m d ss) (stepped c s) (λ d k. walks ss d k)
 
+-- What replay answers: the refusal, or a state below g.
 pub replay-range : (m : Model) (bytes : List ℕ) → Valid m → ReplyFits (replayReply (replayOf m bytes))
 unfolding replayOf firstOf
 replay-range m bytes v = rw v (go (sizeFits bytes) (walk m (startOf m) (stepsOf bytes)) (walks f (stepsOf bytes) (startOf m) (f .start)))

@@ -32,6 +32,7 @@ pub record WasRefused (bytes : List ℕ) (n : ℕ) : Type 0 where
   pub read : readOf bytes ≡ refused n
   pub fits : ReplyFits (reply.refused n)
 
+-- Where the reader accepts, reading gave its model ..
 pub was-read : (bytes : List ℕ) {r : Reading} → (r ≡ readingOf (readOf bytes)) × Keeps r bytes → r .answer ≡ Accepted
     → WasRead bytes (r .model)
 unfolding readingOf
@@ -41,6 +42,7 @@ was-read bytes {r} told a = go (readOf bytes) refl (told .0)
     go (refused n) same e = absurd (let z : _≡_ {A = ℕ} 0 1 = cc in omega arith)
     go (accepted (m, rest)) same e = record { rest = rest; read = cc; valid = rw a at (told .1) .valid }
 
+-- .. and where it refuses, its number.
 pub was-refused : (bytes : List ℕ) {r : Reading} {n : ℕ} → (r ≡ readingOf (readOf bytes)) × Keeps r bytes → r .answer ≡ Refused n
     → WasRefused bytes n
 unfolding readingOf

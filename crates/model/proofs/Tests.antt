@@ -12,6 +12,11 @@ pub passed : (b : Bool) → T b → b ≡ true
 passed true t = refl
 passed false t = absurd t
 
+-- A test that does not pass is false.
+pub failed : (b : Bool) → (T b → ⊥) → b ≡ false
+failed true h = absurd (h tt)
+failed false h = refl
+
 -- A test of two parts passes exactly if both do.
 pub both : (a b : Bool) → T (a && b) ↔ (T a × T b)
 both true b = (λ h. (tt, h), λ h. h .1)

@@ -2,13 +2,13 @@
 -- field's bit stands exactly if the value is not the default.
 use mathlib.Core.Bool.{Bool, true, false, not}
 use mathlib.Core.List.{List, [], _∷_, _++_}
-use mathlib.Core.Path.{_≡_, refl, sym, ap, subst₂}
+use mathlib.Core.Path.{_≡_, sym, ap, subst₂}
 use Prim.Native.Nat.{ℕ, suc, _≤_, _<_}
 use native.Mathlib.Decide.{ℕ-discrete}
-use lib.Dec.{T, leb, ltb, eqb}
+use lib.Dec.{T-not, leb, ltb, eqb}
 use borrow.Author.Tests.{le-leb, lt-ltb, eq-eqb, ne-eqb}
 use Rattle.model.proofs.Results.{apart, accepted-same, checked, through}
-use Rattle.model.proofs.Tests.{both, order}
+use Rattle.model.proofs.Tests.{both, order, failed}
 use Rattle.model.specs.Results.{accepted}
 use Rattle.record.specs.Reader.{Read, andRead, inRange, parseByte, parseRanged, parseField}
 use Rattle.writer.specs.Writer.{fieldOf}
@@ -49,11 +49,6 @@ ranged-forth n low limit bs {b} {rest} e =
     carried (λ b rest. (bs ≡ b ∷ rest) × (low ≤ b) × (b < limit)) v
     (byte-forth bs r, order low x .0 (z .0), order (suc x) limit .0 (z .1))
 
--- A test that must fail fails.
-denied : (b : Bool) → T (not b) → b ≡ false
-denied true t = absurd t
-denied false t = refl
-
 -- A value is the default, or not, as its test says.
 is-default : (default v : ℕ) {P : Type 0} → (eqb v default ≡ true → v ≡ default → P) → (eqb v default ≡ false → P) → P
 is-default default v y n = elim (ℕ-discrete v default) [ yes e ↦ y (eq-eqb v default e) e | no h ↦ n (ne-eqb v default h) ]
@@ -85,7 +80,7 @@ field-forth false n low limit default bs {v} {rest} h k e =
 field-forth true n low limit default bs {v} {rest} h k e =
     parted (parseRanged n low limit bs) _ e λ b mid r f.
     checked 5 (not (eqb b default)) f λ t w.
-    let d = denied (eqb b default) t in
+    let d = failed (eqb b default) (T-not (eqb b default) t) in
     let z = ranged-forth n low limit bs r in
     carried (λ v rest. FieldRead true low limit default v bs rest) w
     (record { bytes = rw d (z .0); stands = rw d; least = z .1; most = z .2 })

@@ -11,9 +11,8 @@ use lib.ListN.{length}
 use Rattle.model.specs.declared.Model.{Model}
 use Rattle.model.specs.declared.Shared.{Shared}
 use Rattle.model.specs.Results.{refused, accepted, unless, firstOf}
-use Rattle.model.specs.Runs.{Leads}
 use Rattle.model.specs.Schedules.{bytesOf, stepsOf}
-use Rattle.model.specs.Valid.{Valid, faultOf}
+use Rattle.model.specs.Valid.{faultOf}
 use Rattle.model.specs.Walk.{Step, Config, Walked, startOf, walk}
 use Rattle.model.proofs.Checks.{both-pass}
 use Rattle.model.proofs.Results.{undue}

@@ -6,7 +6,7 @@ use borrow.Author.Tests.{le-leb, lt-leb, eq-eqb, ne-eqb}
 use lib.ListN.{length}
 use Rattle.model.specs.declared.Model.{Model}
 use Rattle.model.specs.Results.{refuse, firstOf}
-use Rattle.model.specs.Schedules.{stepsOf}
+use Rattle.model.specs.Schedules.{stepsOf, mostBytes}
 use Rattle.model.specs.Valid.{faultOf}
 use Rattle.model.specs.Walk.{Walked, startOf, walk}
 use Rattle.model.proofs.Checks.{stops}
@@ -31,12 +31,12 @@ module _ (m : Model) (l : List ℕ) {found : ℕ} (e : found ≡ faultOf m) wher
   unfolding replayOf sizeFits firstOf
   uneven z h = rw (← e, z, ne-eqb (length l % 2) 0 h)
 
-  pub too-long : found ≡ 0 → length l % 2 ≡ 0 → 8190 < length l → Refused 8 ≡ replayOf m l
+  pub too-long : found ≡ 0 → length l % 2 ≡ 0 → mostBytes < length l → Refused 8 ≡ replayOf m l
   unfolding replayOf sizeFits firstOf
-  too-long z h k = rw (← e, z, eq-eqb (length l % 2) 0 h, lt-leb (length l) 8190 k)
+  too-long z h k = rw (← e, z, eq-eqb (length l % 2) 0 h, lt-leb (length l) mostBytes k)
 
   -- .. and any other is walked.
-  pub walked : found ≡ 0 → length l % 2 ≡ 0 → length l ≤ 8190 → {w : Walked} → w ≡ walk m (startOf m) (stepsOf l)
+  pub walked : found ≡ 0 → length l % 2 ≡ 0 → length l ≤ mostBytes → {w : Walked} → w ≡ walk m (startOf m) (stepsOf l)
       → replayedBy m w ≡ replayOf m l
   unfolding replayOf sizeFits firstOf
-  walked z h k p = rw (p, ← e, z, eq-eqb (length l % 2) 0 h, le-leb (length l) 8190 k)
+  walked z h k p = rw (p, ← e, z, eq-eqb (length l % 2) 0 h, le-leb (length l) mostBytes k)
