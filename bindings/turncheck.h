@@ -1,6 +1,6 @@
 /* turncheck: a proved checker for races between two threads with stacks, as it is called from C.
  *
- * Each call takes the bytes of a model record and answers a number. The number's kind, TURNCHECK_KIND, says what is answered: why
+ * Each call takes the bytes of a model record, or of a tray of them, and answers a number. The number's kind, TURNCHECK_KIND, says what is answered: why
  * the call refuses (enum turncheck_refusal, 1 to 31), or what it found (enum turncheck_kind). A count or a state that belongs to the
  * answer stands above the kind, and a macro takes it out. A call that refuses changes no byte of any store. Nothing else is asked of
  * the bytes: any are taken.
@@ -48,7 +48,9 @@ enum turncheck_kind {
     TURNCHECK_LONG = 34,    /* turncheck_judge: some run does, and each that does has more than 4,095 steps */
     TURNCHECK_FOUND = 35,   /* turncheck_judge: some run does, and a shortest that does has TURNCHECK_STEPS steps */
     TURNCHECK_STOPPED = 36, /* turncheck_replay: the last shared state is TURNCHECK_STATE, which is not the target */
-    TURNCHECK_REACHED = 37  /* turncheck_replay: the last shared state is TURNCHECK_STATE, which is the target */
+    TURNCHECK_REACHED = 37, /* turncheck_replay: the last shared state is TURNCHECK_STATE, which is the target */
+    TURNCHECK_TAKEN = 38,   /* turncheck_first: the tray's first TURNCHECK_LENGTH bytes are a record */
+    TURNCHECK_NONE = 39     /* turncheck_first: the tray is empty */
 };
 
 /* The parts of a number: its kind in bits 0 to 7, and fields of 16 bits, the first in bits 16 to 31. Other bits are 0. */
@@ -59,12 +61,17 @@ enum turncheck_kind {
 #define TURNCHECK_IS_REFUSED(number) (TURNCHECK_KIND(number) >= 1 && TURNCHECK_KIND(number) <= 31)
 
 /* What a number of the right kind carries. */
-#define TURNCHECK_LENGTH(number) TURNCHECK_FIELD1(number) /* TURNCHECK_WRITTEN: the record's length, at most 649 */
+#define TURNCHECK_LENGTH(number) TURNCHECK_FIELD1(number) /* TURNCHECK_WRITTEN, TURNCHECK_TAKEN: a record's length, at most 649 */
 #define TURNCHECK_STEPS(number) TURNCHECK_FIELD1(number)  /* TURNCHECK_FOUND: steps, at most 4,095 */
 #define TURNCHECK_STATE(number) TURNCHECK_FIELD1(number)  /* TURNCHECK_STOPPED, TURNCHECK_REACHED: a state, at most 3 */
 
 /* Reads a record: TURNCHECK_DONE, or refusal 1 to 6. */
 uint64_t turncheck_read(const uint8_t *record, size_t record_size);
+
+/* Reads the first record of a tray, which is records one after another: TURNCHECK_TAKEN with the record's length, TURNCHECK_NONE for
+ * an empty tray, or refusal 1 to 5. So many bytes are a record by themselves, which every other call takes; go on with the tray
+ * behind them. A refused record has no length, so nothing behind it can be read. What follows a record is not looked at. */
+uint64_t turncheck_first(const uint8_t *tray, size_t tray_size);
 
 /* Reads a record and writes its model again, to the front of the store; the bytes beyond keep their value. The bytes are those of
  * the record. Answers TURNCHECK_WRITTEN with how many they are, or refusal 1 to 7. */

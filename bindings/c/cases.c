@@ -26,6 +26,8 @@ static void *call(void *unused) {
     (void)unused;
     if (strcmp(name, "read") == 0)
         answer = turncheck_read(record.at, record.size);
+    else if (strcmp(name, "first") == 0)
+        answer = turncheck_first(record.at, record.size);
     else if (strcmp(name, "write") == 0)
         answer = turncheck_write(record.at, record.size, first.at, first.size);
     else if (strcmp(name, "lines") == 0)
@@ -101,15 +103,15 @@ static int holds(const struct bytes *store, const char *word) {
 
 /* An answer in words, by the number's kind. */
 static void tell(uint64_t n, int read, char *words, size_t size) {
-    static const char *const names[] = {"length", "clear", "long", "found", "state", "target"};
+    static const char *const names[] = {"length", "clear", "long", "found", "state", "target", "taken", "none"};
     unsigned kind = TURNCHECK_KIND(n), field = TURNCHECK_FIELD1(n);
     if (n == TURNCHECK_DONE)
         snprintf(words, size, read ? "accepted" : "done");
     else if (TURNCHECK_IS_REFUSED(n) && n == kind)
         snprintf(words, size, "refused:%u", kind);
-    else if ((kind == TURNCHECK_CLEAR || kind == TURNCHECK_LONG) && n == kind)
+    else if ((kind == TURNCHECK_CLEAR || kind == TURNCHECK_LONG || kind == TURNCHECK_NONE) && n == kind)
         snprintf(words, size, "%s", names[kind - TURNCHECK_WRITTEN]);
-    else if (kind >= TURNCHECK_WRITTEN && kind <= TURNCHECK_REACHED && n == ((uint64_t)field << 16 | kind))
+    else if (kind >= TURNCHECK_WRITTEN && kind < TURNCHECK_NONE && n == ((uint64_t)field << 16 | kind))
         snprintf(words, size, "%s:%u", names[kind - TURNCHECK_WRITTEN], field);
     else
         snprintf(words, size, "number:%" PRIu64, n);
@@ -129,6 +131,16 @@ static int judged(uint64_t verdict, size_t stack) {
     return !is_found || TURNCHECK_KIND(on_thread("replay", stack)) == TURNCHECK_REACHED;
 }
 
+/* What was taken from a tray is a record by itself. */
+static int stands(uint64_t number, size_t stack) {
+    size_t tray = record.size;
+    if (TURNCHECK_LENGTH(number) > tray) return 0;
+    record.size = TURNCHECK_LENGTH(number);
+    int accepted = on_thread("read", stack) == TURNCHECK_DONE;
+    record.size = tray;
+    return accepted;
+}
+
 /* One case, by its words: the call, what is lent beside the record, the answer, what the stores then hold. */
 static int agrees(char **word, size_t stack) {
     char words[40];
@@ -141,6 +153,7 @@ static int agrees(char **word, size_t stack) {
     uint64_t n = on_thread(word[0], stack);
     tell(n, strcmp(word[0], "read") == 0, words, sizeof words);
     if (*wanted == NULL || strcmp(words, *wanted) != 0) return 0;
+    if (TURNCHECK_KIND(n) == TURNCHECK_TAKEN) return stands(n, stack);
     if (stores > 0 && !holds(&first, wanted[1])) return 0;
     if (stores > 1 && !holds(&second, wanted[2])) return 0;
     return !judge || TURNCHECK_IS_REFUSED(n) || judged(n, stack);

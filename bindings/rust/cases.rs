@@ -3,7 +3,7 @@
 #[allow(dead_code)]
 mod turncheck;
 
-use turncheck::{Last, Refusal, Verdict};
+use turncheck::{First, Last, Refusal, Verdict};
 
 const FILLER: u8 = 0xAA;
 
@@ -89,10 +89,22 @@ fn judged(record: &[u8], word: &[&str], stack: usize) -> bool {
         && (v != Verdict::Found(steps) || reaches())
 }
 
+/// The first record of a tray. What is taken is a record by itself, and the rest is what stands behind it.
+fn taken(tray: &[u8], wanted: &str, stack: usize) -> bool {
+    let answer = on_thread(stack, || turncheck::first(tray));
+    let words = |first: Option<First>| first.map_or("none".into(), |f| format!("taken:{}", f.record.len()));
+    let stands = match answer {
+        Ok(Some(f)) => on_thread(stack, || turncheck::read(f.record)).is_ok() && [f.record, f.rest].concat() == tray,
+        _ => true,
+    };
+    told(answer, words) == wanted && stands
+}
+
 /// One case, by its words: the call, what is lent beside the record, the answer, what the stores then hold.
 fn agrees(record: &[u8], word: &[&str], stack: usize) -> bool {
     match word[0] {
         "read" => told(on_thread(stack, || turncheck::read(record)), |()| "accepted".into()) == word[1],
+        "first" => taken(record, word[1], stack),
         "replay" => {
             let schedule = parse(word[1]);
             told(on_thread(stack, || turncheck::replay(record, &schedule)), last) == word[2]

@@ -1,6 +1,6 @@
 //! turncheck from Rust: a proved checker for races between two threads with stacks.
 //!
-//! Each call takes the bytes of a model record. A call that refuses changes no byte of any store.
+//! Each call takes the bytes of a model record, or of a tray of them. A call that refuses changes no byte of any store.
 //! The deepest models that we know take less than 512 KB of stack; a Rust thread has 2 MB by default.
 
 /// The longest record.
@@ -53,8 +53,16 @@ pub struct Last {
     pub target: bool,
 }
 
+/// The first record of a tray, and the rest.
+#[derive(Clone, Copy, Debug, PartialEq, Eq)]
+pub struct First<'a> {
+    pub record: &'a [u8],
+    pub rest: &'a [u8],
+}
+
 extern "C" {
     fn turncheck_read(record: *const u8, record_size: usize) -> u64;
+    fn turncheck_first(tray: *const u8, tray_size: usize) -> u64;
     fn turncheck_write(record: *const u8, record_size: usize, store: *mut u8, store_size: usize) -> u64;
     fn turncheck_lines(record: *const u8, record_size: usize, lines: *mut u8, lines_size: usize) -> u64;
     fn turncheck_judge(
@@ -76,6 +84,8 @@ const LONG: u16 = 34;
 const FOUND: u16 = 35;
 const STOPPED: u16 = 36;
 const REACHED: u16 = 37;
+const TAKEN: u16 = 38;
+const NONE: u16 = 39;
 
 /// A number's kind, whose upper byte is 0, and the three fields above it.
 fn parts(number: u64) -> [u16; 4] {
@@ -105,6 +115,20 @@ pub fn read(record: &[u8]) -> Result<(), Refusal> {
     let number = unsafe { turncheck_read(record.as_ptr(), record.len()) };
     match parts(number) {
         [DONE, 0, 0, 0] => Ok(()),
+        _ => Err(refusal(number)),
+    }
+}
+
+/// Reads the first record of a tray, which is records one after another; `None` where it is empty. The record is a part of the tray by
+/// itself, which every other call takes, and the rest is the tray behind it. What follows a record is not looked at.
+pub fn first(tray: &[u8]) -> Result<Option<First<'_>>, Refusal> {
+    let number = unsafe { turncheck_first(tray.as_ptr(), tray.len()) };
+    match parts(number) {
+        [TAKEN, length, 0, 0] => {
+            let (record, rest) = tray.split_at(length.into());
+            Ok(Some(First { record, rest }))
+        }
+        [NONE, 0, 0, 0] => Ok(None),
         _ => Err(refusal(number)),
     }
 }

@@ -1,3 +1,4 @@
 pub mod Ranges
 pub mod Records
 pub mod Replies
+pub mod Trays

@@ -4,7 +4,7 @@ use mathlib.Core.Path.{_≡_, refl, ap, _∙_}
 use Prim.Native.Nat.{ℕ, _+_, _*_, _/_, _%_, _≤_, _<_}
 use native.Mathlib.Omega.{arith}
 use borrow.Author.Tests.{ne-eqb}
-use Rattle.ffi.specs.Replies.{Reply, refused, done, written, clear, long, found, stopped, reached}
+use Rattle.ffi.specs.Replies.{Reply, refused, done, written, clear, long, found, stopped, reached, taken, none}
 use Rattle.ffi.specs.Replies.{packed, numberOf, replyBy, replyOf, ReplyFits, Says}
 
 -- The low byte is the kind ..
@@ -32,6 +32,8 @@ refusal-told n h l = rw (
   ne-eqb n 35 (λ e. omega arith),
   ne-eqb n 36 (λ e. omega arith),
   ne-eqb n 37 (λ e. omega arith),
+  ne-eqb n 38 (λ e. omega arith),
+  ne-eqb n 39 (λ e. omega arith),
 )
 
 -- Every reply in range is told by its number.
@@ -45,6 +47,8 @@ reply-told long h = refl
 reply-told (found n) h = parts-told 35 n (omega arith) h
 reply-told (stopped q) h = parts-told 36 q (omega arith) h
 reply-told (reached q) h = parts-told 37 q (omega arith) h
+reply-told (taken n) h = parts-told 38 n (omega arith) h
+reply-told none h = refl
 
 -- So the number of an answer whose reply is in range says that reply, where `a` is what the code has and `b` what is promised ..
 pub says : {A : Type 0} {a b : A} {r : ℕ} (reply : A → Reply) → a ≡ b → ReplyFits (reply b) → r ≡ numberOf (reply a)

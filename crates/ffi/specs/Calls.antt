@@ -11,7 +11,9 @@ use Rattle.reach.specs.Answer.{outcomeOf, Leaves}
 use Rattle.replay.specs.Replay.{replayOf}
 use Rattle.judge.specs.declared.Judgement.{Judgement}
 use Rattle.judge.specs.Answer.{refusalOf, Answers, LeavesLines, LeavesSchedule}
-use Rattle.ffi.specs.Replies.{refused, done, Says, writeReply, linesReply, judgeReply, replayReply}
+use Rattle.tray.specs.Answer.{firstReadingOf, Stands}
+use Rattle.tray.specs.Tray.{trayOf}
+use Rattle.ffi.specs.Replies.{refused, done, Says, writeReply, linesReply, judgeReply, replayReply, firstReply}
 
 -- What holds by what reading comes to: one thing of a refusal's number, or another of the model.
 abbrev pub Either : (ℕ → Type 0) → (Model → Type 0) → Read Model → Type 0
@@ -51,3 +53,7 @@ JudgeCall bytes r lines linesAfter schedule scheduleAfter =
 -- Replaying a schedule of the model that was read: what replay answers.
 abbrev pub ReplayCall : List ℕ → List ℕ → ℕ → Type 0
 ReplayCall bytes schedule r = Either (λ n. Says r (refused n)) (λ m. Says r (replayReply (replayOf m schedule))) (readOf bytes)
+
+-- Reading the first record of a tray: what that call answers; a record that is taken stands at the front with as many bytes as are said.
+abbrev pub FirstCall : List ℕ → ℕ → Type 0
+FirstCall tray r = Says r (firstReply (firstReadingOf (trayOf tray) .answer)) × Stands (firstReadingOf (trayOf tray)) tray

@@ -11,9 +11,12 @@ use Rattle.record.specs.declared.Written.{Written}
 use Rattle.record.specs.declared.Written.the-variants as writing
 use Rattle.replay.specs.declared.Replayed.{Replayed}
 use Rattle.replay.specs.declared.Replayed.the-variants as replayed
+use Rattle.tray.specs.declared.FirstRecord.{FirstRecord}
+use Rattle.tray.specs.declared.FirstRecord.the-variants as firstRecord
 
 -- Everything that a call answers: a refusal's number; done; the length of a record that was written; the three verdicts, Found with
--- its steps; and the last shared state of a replay that stopped elsewhere, or that reached the target.
+-- its steps; the last shared state of a replay that stopped elsewhere, or that reached the target; the length of the record taken from
+-- the front of a tray, or that there is none.
 pub data Reply : Type 0 where
   refused : ℕ → Reply
   done : Reply
@@ -21,6 +24,8 @@ pub data Reply : Type 0 where
   clear long : Reply
   found : ℕ → Reply
   stopped reached : ℕ → Reply
+  taken : ℕ → Reply
+  none : Reply
 
 -- A kind in the low byte, and three fields of 16 bits from bit 16 on.
 abbrev pub packed : ℕ → ℕ → ℕ → ℕ → ℕ
@@ -36,6 +41,8 @@ numberOf long = packed 34 0 0 0
 numberOf (found n) = packed 35 n 0 0
 numberOf (stopped q) = packed 36 q 0 0
 numberOf (reached q) = packed 37 q 0 0
+numberOf (taken n) = packed 38 n 0 0
+numberOf none = packed 39 0 0 0
 
 -- The reply of a kind and a first field; a kind that no other reply has is a refusal's number.
 unfoldable pub replyBy : ℕ → ℕ → Reply
@@ -44,7 +51,9 @@ replyBy kind x =
     (cond (eqb kind 32) (written x)
     (cond (eqb kind 33) clear
     (cond (eqb kind 34) long
-    (cond (eqb kind 35) (found x) (cond (eqb kind 36) (stopped x) (cond (eqb kind 37) (reached x) (refused kind)))))))
+    (cond (eqb kind 35) (found x)
+    (cond (eqb kind 36) (stopped x)
+    (cond (eqb kind 37) (reached x) (cond (eqb kind 38) (taken x) (cond (eqb kind 39) none (refused kind)))))))))
 
 -- The reply that a number tells, by its low byte and its first field.
 abbrev pub replyOf : ℕ → Reply
@@ -60,6 +69,8 @@ ReplyFits long = Unit {0}
 ReplyFits (found n) = n < 65536
 ReplyFits (stopped q) = q < 65536
 ReplyFits (reached q) = q < 65536
+ReplyFits (taken n) = n < 65536
+ReplyFits none = Unit {0}
 
 -- A number says a reply: it is that reply's number, and what it tells is that reply.
 pub record Says (r : ℕ) (a : Reply) : Type 0 where
@@ -88,3 +99,9 @@ abbrev pub replayReply : Replayed → Reply
 replayReply (replayed.Accepted shared true) = reached (shared .0)
 replayReply (replayed.Accepted shared false) = stopped (shared .0)
 replayReply (replayed.Refused n) = refused n
+
+-- The reply to a call that reads the first record of a tray.
+abbrev pub firstReply : FirstRecord → Reply
+firstReply firstRecord.None = none
+firstReply (firstRecord.Accepted n) = taken n
+firstReply (firstRecord.Refused n) = refused n

@@ -1,13 +1,14 @@
 // The calls for C and Rust: bytes in, a number out, and a record in place of a model. The numbers are defined in specs/.
 ghost use mathlib.Core.Path.{_≡_};
 ghost use Prim.Native.Nat.{_<_};
-ghost use Rattle.ffi.specs.Calls.{ReadCall, WriteCall, LinesCall, JudgeCall, ReplayCall};
+ghost use Rattle.ffi.specs.Calls.{ReadCall, WriteCall, LinesCall, JudgeCall, ReplayCall, FirstCall};
 ghost use Rattle.ffi.specs.Replies.{packed};
 use judge::Judgement;
 use reach::Outcome;
 use record::Answer;
 use record::Written;
 use replay::Replayed;
+use tray::FirstRecord;
 
 // The kinds of answers: a number's low byte. A refusal's kind is its own number, 1 to 31.
 const DONE: u64 = 0;
@@ -23,6 +24,10 @@ const FOUND: u64 = 35;
 const STOPPED: u64 = 36;
 
 const REACHED: u64 = 37;
+
+const TAKEN: u64 = 38;
+
+const NONE: u64 = 39;
 
 // Reads a record: done where it is accepted.
 #[no_mangle]
@@ -107,6 +112,20 @@ pub extern "C" fn turncheck_replay(bytes: &[u8], schedule: &[u8]) -> u64
             Replayed::Refused(n) => n as u64,
         },
         Answer::Refused(n) => n as u64,
+    }
+}
+
+// Reads the first record of a tray: taken, with its length, or none.
+#[no_mangle]
+pub extern "C" fn turncheck_first(tray: &[u8]) -> u64
+    ensures { λ r. ⌜ FirstCall (now (tray .entry)) r ⌝ }
+{
+    let reading = tray::first(tray);
+    let answer = reading.answer;
+    match answer {
+        FirstRecord::None => NONE,
+        FirstRecord::Accepted(n) => with_field(TAKEN, n as u64),
+        FirstRecord::Refused(n) => n as u64,
     }
 }
 

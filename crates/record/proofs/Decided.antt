@@ -1,5 +1,5 @@
--- 650 bytes decide the answer to a record, and a record is refused by a number from 1 to 6: every part of the reader is
--- steady, part by part, and a record takes at most 649 bytes.
+-- 650 bytes decide the answer to a record, and a record is refused by a number from 1 to 6, at the front of any bytes by 1 to 5:
+-- every part of the reader is steady, part by part, and a record takes at most 649 bytes.
 use mathlib.Core.Bool.{Bool, true, false, not}
 use mathlib.Core.List.{List, [], _∷_}
 use mathlib.Core.Path.{_≡_, refl}
@@ -88,13 +88,17 @@ front =
     chained (rules (bit 6 (h .map)) (h .g)) λ bs ra rest e.
     chained (rules (bit 7 (h .map)) (h .g)) λ bs rb rest e. none _
 
--- The refusal of a whole record.
+-- The refusal of a record at the front ..
+pub front-refusal : (bs : List ℕ) {n : ℕ} → parseFront bs ≡ refused n → Low n
+front-refusal bs {n} e = rw e at (front .takes bs)
+
+-- .. and of a whole one.
 pub record-refusal : (bs : List ℕ) {n : ℕ} → readOf bs ≡ refused n → (1 ≤ n) × (n ≤ 6)
 unfolding readOf
 record-refusal bs {n} = go (parseFront bs) (front .takes bs)
   where
-    go : (r : Read Model) → Takes (length bs) 649 r → andRead r ended ≡ refused n → Low n
-    go (refused k) t e = let same : k ≡ n = cc in rw same at t
+    go : (r : Read Model) → Takes (length bs) 649 r → andRead r ended ≡ refused n → (1 ≤ n) × (n ≤ 6)
+    go (refused k) t e = let same : k ≡ n = cc in let low = rw same at t in (low .0, omega (arith, low .1))
     go (accepted (m, [])) t e = let z : _≡_ {A = ℕ} 0 1 = cc in absurd (omega arith)
     go (accepted (m, b ∷ rest)) t e = let six : _≡_ {A = ℕ} 6 n = cc in (omega arith, omega arith)
 

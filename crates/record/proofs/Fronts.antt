@@ -30,16 +30,16 @@ unfolding readingOf
 read-front k h = rw h (record { same = refl; within = k }, refl)
 
 -- The bytes from a place to the end are what is left there.
-whole : (s : List ℕ) (at : ℕ) → at ≤ length s → take (length s - at) (drop at s) ≡ drop at s
-whole s at h = take-all (length s - at) (drop at s) (simp length-drop (omega arith))
+pub to-end : (s : List ℕ) (at : ℕ) → at ≤ length s → take (length s - at) (drop at s) ≡ drop at s
+to-end s at h = take-all (length s - at) (drop at s) (simp length-drop (omega arith))
 
 -- What was wanted of the rules from a place on, whose answer is known ..
 module _ (s : List ℕ) (at : ℕ) (h : at ≤ length s) (r : RuleList) (present : Bool) (g : ℕ) {t : Taken}
     (reads : Reads (take (length s - at) (drop at s)) (listOf r) (parseRules present g (take (length s - at) (drop at s))))
     (e : r .answer ≡ t) where
   pub list-got : parseRules present g (drop at s) ≡ over (drop at s) (takenWith (listed r) t)
-  list-got = rw (whole s at h, e) at (sym (reads .same))
+  list-got = rw (to-end s at h, e) at (sym (reads .same))
 
   -- .. and where they end.
   pub list-ends : at + placeOf (takenWith (listed r) t) ≤ length s
-  list-ends = let k = rw (whole s at h, e, length-drop) at (reads .within) in omega arith
+  list-ends = let k = rw (to-end s at h, e, length-drop) at (reads .within) in omega arith

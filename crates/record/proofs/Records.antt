@@ -5,7 +5,7 @@ use mathlib.Core.Path.{_≡_, refl, sym, ap, subst, _∙_}
 use Prim.Native.Nat.{ℕ, _-_, _≤_, _<_}
 use native.Mathlib.Omega.{arith}
 use lib.Dec.{eqb}
-use lib.ListN.{length, getD, take, replicate, List·getD-append}
+use lib.ListN.{length, getD, take, replicate, length-append, length-replicate, List·getD-append}
 use lib.Seq.{drop-append-seam, length-take-le, getD-take}
 use Rattle.model.specs.declared.Model.{Model}
 use Rattle.model.specs.declared.Rule.{Rule}
@@ -13,7 +13,7 @@ use Rattle.model.specs.declared.Thread.{Thread}
 use Rattle.model.specs.Bits.{bit}
 use Rattle.model.specs.Results.{refused, accepted}
 use Rattle.model.specs.Rules.{zeroRule}
-use Rattle.model.specs.Valid.{Valid, SameThread, Places}
+use Rattle.model.specs.Valid.{Valid, SameThread, Same, Places}
 use Rattle.model.proofs.Ranges.{valid-fits}
 use Rattle.model.proofs.Results.{apart}
 use Rattle.record.specs.declared.Reading.{Reading}
@@ -54,6 +54,7 @@ front-back m v p rest =
 pub record FrontRead (bs : List ℕ) (m : Model) (rest : List ℕ) : Type 0 where
   pub bytes : getD bs 0 0 < 256 → bs ≡ recordOf m ++ rest
   pub valid : Valid m
+  pub places : Places m
   pub unusedA : Unused (m .a)
   pub unusedB : Unused (m .b)
 
@@ -63,6 +64,10 @@ same-map : (h : Head) (ra rb : List Rule) → h .map < 256
     → mapOf (modelOf h ra rb) ≡ h .map
 unfolding mapOf weightOf
 same-map h ra rb k b = head-sum (h .map) k b
+
+-- Rules with zeros behind them, up to 64.
+padded-size : (rs : List Rule) → length rs ≤ 64 → length (rs ++ replicate (64 - length rs) zeroRule) ≡ 64
+padded-size rs h = simp (length-append, length-replicate) (omega arith)
 
 -- Head and rules that were read make the record.
 front-made : {bs m₁ m₂ rest : List ℕ} {h : Head} {ra rb : List Rule} → HeadRead bs h m₁
@@ -84,6 +89,7 @@ front-made {bs} {m₁} {m₂} {rest} {h} {ra} {rb} hd a b =
             a = thread-fits (h .g) (h .a) ra (hd .first) (a .most) (a .fits);
             b = thread-fits (h .g) (h .b) rb (hd .second) (b .most) (b .fits);
           });
+      places = record { a = padded-size ra (a .most); b = padded-size rb (b .most) };
       unusedA = drop-append-seam ra (replicate (64 - length ra) zeroRule);
       unusedB = drop-append-seam rb (replicate (64 - length rb) zeroRule);
     }
@@ -129,24 +135,38 @@ tidy-same t n k =
       rules = λ r h. sym (List·getD-append used (replicate (64 - length used) zeroRule) zeroRule r (omega arith) ∙ getD-take (t .count) (t .rules) r zeroRule h);
     }
 
--- Every valid model survives writing and reading, as the same model with its unused places zero.
-pub written-read : (m : Model) → Valid m → Places m → ReadsBack m (recordOf m)
-unfolding readOf tidy headOf
-written-read m v p =
+-- A model with its unused places zero is the same model.
+pub tidy-model : (m : Model) → Valid m → Places m → Same m (tidy m)
+unfolding tidy headOf
+tidy-model m v p =
     let f = valid-fits m .0 v in
-    let e : parseFront (recordOf m) ≡ accepted (tidy m, []) = rw append-nil at (front-back m v p []) in
     record {
-      model = tidy m;
-      read = rw e;
-      same = record {
-        g = refl;
-        k = refl;
-        start = refl;
-        target = refl;
-        a = tidy-same (m .a) (p .a) (f .a .count);
-        b = tidy-same (m .b) (p .b) (f .b .count);
-      };
+      g = refl;
+      k = refl;
+      start = refl;
+      target = refl;
+      a = tidy-same (m .a) (p .a) (f .a .count);
+      b = tidy-same (m .b) (p .b) (f .b .count);
     }
+
+-- A written record is read as the model with its unused places zero.
+record-back : (m : Model) → Valid m → Places m → readOf (recordOf m) ≡ accepted (tidy m, [])
+unfolding readOf
+record-back m v p =
+    let e : parseFront (recordOf m) ≡ accepted (tidy m, []) = rw append-nil at (front-back m v p []) in rw e
+
+-- So every valid model survives writing and reading.
+pub written-read : (m : Model) → Valid m → Places m → ReadsBack m (recordOf m)
+written-read m v p = record { model = tidy m; read = record-back m v p; same = tidy-model m v p }
+
+-- A record that was read at the front is read alone as the same model.
+pub read-alone : (bs : List ℕ) {m : Model} {rest : List ℕ} → parseFront bs ≡ accepted (m, rest) → getD bs 0 0 < 256
+    → readOf (recordOf m) ≡ accepted (m, [])
+read-alone bs {m} {rest} e k =
+    let f = front-forth bs e in
+    let again : _≡_ {A = Read Model} (accepted (m, rest)) (accepted (tidy m, rest)) =
+    sym e ∙ (ap parseFront (f .bytes k) ∙ front-back m (f .valid) (f .places) rest) in
+    record-back m (f .valid) (f .places) ∙ ap (λ (n : Model). accepted (n, [])) (sym (value-same again .0))
 
 -- The reading of bytes keeps what it accepts.
 pub keeps : (bs : List ℕ) → getD bs 0 0 < 256 → Keeps (readingOf (readOf bs)) bs

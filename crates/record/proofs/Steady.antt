@@ -1,5 +1,5 @@
 -- What every part of the reader has in common, proved once for each way parts are put together: it takes at most so many
--- bytes, bytes behind those change nothing, and it refuses by a number from 1 to 6.
+-- bytes, bytes behind those change nothing, and it refuses by a number from 1 to 5.
 use mathlib.Core.Bool.{Bool, true, false}
 use mathlib.Core.List.{List, [], _∷_, _++_}
 use mathlib.Core.Path.{_≡_, refl}
@@ -9,9 +9,9 @@ use lib.ListN.{length}
 use Rattle.model.specs.Results.{refused, accepted, need}
 use Rattle.record.specs.Reader.{Read, andRead, parseByte}
 
--- A number that refuses a record.
+-- A number that refuses a record at the front: 6 is for what is left after one.
 abbrev pub Low : ℕ → Type 0
-Low n = (1 ≤ n) × (n ≤ 6)
+Low n = (1 ≤ n) × (n ≤ 5)
 
 -- More bytes behind those that are left.
 abbrev pub before : {A : Type 0} → List ℕ → Read A → Read A

@@ -1,0 +1,3 @@
+pub mod Fronts
+pub mod Laws
+pub mod Parts
