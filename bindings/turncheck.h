@@ -70,7 +70,7 @@ uint64_t turncheck_read(const uint8_t *record, size_t record_size);
 
 /* Reads the first record of a tray, which is records one after another: TURNCHECK_TAKEN with the record's length, TURNCHECK_NONE for
  * an empty tray, or refusal 1 to 5. So many bytes are a record by themselves, which every other call takes; go on with the tray
- * behind them. A refused record has no length, so nothing behind it can be read. What follows a record is not looked at. */
+ * behind them, which are no fault of this record. A refused record has no length, so nothing behind it can be read. */
 uint64_t turncheck_first(const uint8_t *tray, size_t tray_size);
 
 /* Reads a record and writes its model again, to the front of the store; the bytes beyond keep their value. The bytes are those of

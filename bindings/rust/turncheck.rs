@@ -120,7 +120,7 @@ pub fn read(record: &[u8]) -> Result<(), Refusal> {
 }
 
 /// Reads the first record of a tray, which is records one after another; `None` where it is empty. The record is a part of the tray by
-/// itself, which every other call takes, and the rest is the tray behind it. What follows a record is not looked at.
+/// itself, which every other call takes, and the rest is the tray behind it, which is no fault of the record.
 pub fn first(tray: &[u8]) -> Result<Option<First<'_>>, Refusal> {
     let number = unsafe { turncheck_first(tray.as_ptr(), tray.len()) };
     match parts(number) {

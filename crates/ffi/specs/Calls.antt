@@ -1,4 +1,4 @@
--- What each call answers for the bytes of a record, and what each lent store then holds.
+-- What each call answers for the bytes of a record or of a tray, and what each lent store then holds.
 use mathlib.Core.List.{List}
 use mathlib.Core.Path.{_≡_}
 use Prim.Native.Nat.{ℕ}

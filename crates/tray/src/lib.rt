@@ -18,7 +18,7 @@ pub struct FirstReading {
     pub model: Model,
 }
 
-// The first record of a tray. What follows it is not looked at.
+// The first record of a tray. Bytes behind it are no fault.
 pub fn first(tray: &[u8]) -> FirstReading
     ensures answer { λ r. ⌜ r ≡ firstReadingOf (trayOf (now (tray .entry))) ⌝ }
     ensures stands { λ r. ⌜ Stands r (now (tray .entry)) ⌝ }

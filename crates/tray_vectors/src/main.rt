@@ -1,4 +1,4 @@
-// Reads document 02's trays and a file of random ones, and compares: the answer, the rest, and the record that is taken.
+// Reads trays made by hand and a file of random ones, and compares: the answer, the rest, and the record that is taken.
 use model::Model;
 use record::Written;
 use tray::FirstRecord;
@@ -66,8 +66,8 @@ fn agrees(tray: &[u8], answer: u8, left: usize) -> bool {
     written(m, &tray[0..end], &mut store)
 }
 
-// Trays by document 02: a day's models, read one by one and then none; one record that is refused, and one behind a good one.
-fn document() -> Tally {
+// What document 02 says of trays: a day's models, read one by one and then none; one record that is refused, and one behind a good one.
+fn by_hand() -> Tally {
     let day =
         *b"\x08\x00\x4B\x02\x01\x01\x01\x01\x00\x01\xC8\x03\x03\x06\x00\x00\x00\x01\x00\x01\x01\x20\x03\x01\x03\x10\x02\x00";
     let mut t = Tally::new();
@@ -121,7 +121,7 @@ fn file(store: &mut [u8]) {
 }
 
 fn main() {
-    document().report(b"document 02");
+    by_hand().report(b"by hand");
     let mut store = [0u8; 210000];
     file(&mut store);
 }
