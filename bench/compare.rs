@@ -1,4 +1,4 @@
-// Before anything is timed: both sides must say the same of a model, and each schedule must replay on both.
+// Before anything is timed: both sides must say the same of a model, and each schedule must replay on both and give the same page.
 use crate::{numbers, proved, reference};
 
 pub fn agree(record: &[u8]) -> Result<(), String> {
@@ -25,7 +25,21 @@ pub fn agree(record: &[u8]) -> Result<(), String> {
             if last.0 != last.1 || numbers::kind(last.0) != numbers::REACHED {
                 return Err(format!("replay says {} and {}", last.0, last.1));
             }
+            same_page(record, steps)?;
         }
+    }
+    same_page(record, &[])
+}
+
+// The whole stores are compared, so neither side may write beyond its page.
+fn same_page(record: &[u8], schedule: &[u8]) -> Result<(), String> {
+    let (mut store, mut other) = (vec![0; numbers::PAGE], vec![0; numbers::PAGE]);
+    let paged = (proved::page(record, schedule, &mut store), reference::page(record, schedule, &mut other));
+    if paged.0 != paged.1 || numbers::kind(paged.0) != numbers::PAGED {
+        return Err(format!("page says {} and {}", paged.0, paged.1));
+    }
+    if store != other {
+        return Err("the pages differ".to_string());
     }
     Ok(())
 }

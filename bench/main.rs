@@ -32,7 +32,8 @@ struct Row {
 
 type Call = fn(&Case) -> Pair;
 
-const CALLS: [(&str, Call); 4] = [("judgement", judgement), ("line table", line_table), ("replay", replay), ("read", read)];
+const CALLS: [(&str, Call); 5] =
+    [("judgement", judgement), ("line table", line_table), ("replay", replay), ("page", page), ("read", read)];
 
 // Each row is timed in so many rounds, and the best counts: a machine that is busy for some seconds spoils one of them.
 const ROUNDS: u32 = 4;
@@ -138,6 +139,15 @@ fn replay(case: &Case) -> Pair {
     best(
         || proved::replay(black_box(&case.record), &case.schedule),
         || reference::replay(black_box(&case.record), &case.schedule),
+    )
+}
+
+fn page(case: &Case) -> Pair {
+    // not zeros: stores of zeros would get their memory in the first call, which would pay for it
+    let (mut store, mut other) = (vec![1; numbers::PAGE], vec![1; numbers::PAGE]);
+    best(
+        || proved::page(black_box(&case.record), &case.schedule, &mut store),
+        || reference::page(black_box(&case.record), &case.schedule, &mut other),
     )
 }
 

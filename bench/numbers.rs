@@ -5,6 +5,10 @@ pub const LONG: u64 = 34;
 pub const FOUND: u64 = 35;
 pub const STOPPED: u64 = 36;
 pub const REACHED: u64 = 37;
+pub const PAGED: u64 = 40;
+
+// The bytes of the longest page: 4,095 steps and the foot, 73 bytes each.
+pub const PAGE: usize = 299_008;
 
 pub fn packed(kind: u64, carried: u64) -> u64 {
     kind | carried << 16

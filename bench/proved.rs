@@ -4,6 +4,7 @@ extern "C" {
     fn turncheck_lines(record: *const u8, n: usize, store: *mut u8, m: usize) -> u64;
     fn turncheck_judge(record: *const u8, n: usize, store: *mut u8, m: usize, schedule: *mut u8, l: usize) -> u64;
     fn turncheck_replay(record: *const u8, n: usize, schedule: *const u8, l: usize) -> u64;
+    fn turncheck_page(record: *const u8, n: usize, schedule: *const u8, l: usize, store: *mut u8, m: usize) -> u64;
 }
 
 // Each call is handed the places and lengths of slices that live as long as it runs; its contract asks for no more.
@@ -23,4 +24,9 @@ pub fn judge(record: &[u8], store: &mut [u8], schedule: &mut [u8]) -> u64 {
 
 pub fn replay(record: &[u8], schedule: &[u8]) -> u64 {
     unsafe { turncheck_replay(record.as_ptr(), record.len(), schedule.as_ptr(), schedule.len()) }
+}
+
+pub fn page(record: &[u8], schedule: &[u8], store: &mut [u8]) -> u64 {
+    let (n, l, m) = (record.len(), schedule.len(), store.len());
+    unsafe { turncheck_page(record.as_ptr(), n, schedule.as_ptr(), l, store.as_mut_ptr(), m) }
 }

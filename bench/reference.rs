@@ -1,12 +1,13 @@
 // The yardstick: the same calls by the same algorithm, in plain Rust and with nothing proved. Records in; each call answers the
 // number that the proved library answers.
 mod costs;
+mod page;
 mod record;
 mod table;
 mod walk;
 mod witness;
 
-use crate::numbers::{packed, CLEAR, DONE, FOUND, LONG, REACHED, STOPPED};
+use crate::numbers::{packed, CLEAR, DONE, FOUND, LONG, PAGED, REACHED, STOPPED};
 
 #[derive(Clone, Copy)]
 pub enum Right {
@@ -88,6 +89,14 @@ pub fn replay(record: &[u8], schedule: &[u8]) -> u64 {
     match walk::walk(&model, schedule) {
         Ok(last) if last == model.target => packed(REACHED, last as u64),
         Ok(last) => packed(STOPPED, last as u64),
+        Err(number) => number,
+    }
+}
+
+// The page of a schedule goes to the front of the store.
+pub fn page(record: &[u8], schedule: &[u8], store: &mut [u8]) -> u64 {
+    match record::read(record).and_then(|model| page::page(&model, schedule, store)) {
+        Ok(size) => packed(PAGED, size as u64),
         Err(number) => number,
     }
 }

@@ -25,6 +25,7 @@ extern "C" {
 #define TURNCHECK_RECORD_BYTES 649    /* the longest record */
 #define TURNCHECK_LINES_BYTES 683     /* the largest line table: 5,460 bits, of a model with G = 4 and K = 3 */
 #define TURNCHECK_SCHEDULE_BYTES 8190 /* the longest schedule: 4,095 steps; what turncheck_judge asks for */
+#define TURNCHECK_PAGE_BYTES 299008   /* the longest page, that of 4,095 steps: 73 bytes for each step and 73 for the foot line */
 
 /* Why a call refuses. The first fault of a record counts, from left to right. Numbers to 31 are kept for later refusals. */
 enum turncheck_refusal {
@@ -50,10 +51,12 @@ enum turncheck_kind {
     TURNCHECK_STOPPED = 36, /* turncheck_replay: the last shared state is TURNCHECK_STATE, which is not the target */
     TURNCHECK_REACHED = 37, /* turncheck_replay: the last shared state is TURNCHECK_STATE, which is the target */
     TURNCHECK_TAKEN = 38,   /* turncheck_first: the tray's first TURNCHECK_LENGTH bytes are a record */
-    TURNCHECK_NONE = 39     /* turncheck_first: the tray is empty */
+    TURNCHECK_NONE = 39,    /* turncheck_first: the tray is empty */
+    TURNCHECK_PAGED = 40    /* turncheck_page: TURNCHECK_PAGE_LENGTH bytes were written */
 };
 
-/* The parts of a number: its kind in bits 0 to 7, and fields of 16 bits, the first in bits 16 to 31. Other bits are 0. */
+/* The parts of a number: its kind in bits 0 to 7, and fields of 16 bits, the first in bits 16 to 31. The length of a page takes the first
+ * two, bits 16 to 47. Other bits are 0. */
 #define TURNCHECK_KIND(number) ((unsigned)((number)&0xFF))
 #define TURNCHECK_FIELD1(number) ((unsigned)((number) >> 16 & 0xFFFF))
 
@@ -64,6 +67,7 @@ enum turncheck_kind {
 #define TURNCHECK_LENGTH(number) TURNCHECK_FIELD1(number) /* TURNCHECK_WRITTEN, TURNCHECK_TAKEN: a record's length, at most 649 */
 #define TURNCHECK_STEPS(number) TURNCHECK_FIELD1(number)  /* TURNCHECK_FOUND: steps, at most 4,095 */
 #define TURNCHECK_STATE(number) TURNCHECK_FIELD1(number)  /* TURNCHECK_STOPPED, TURNCHECK_REACHED: a state, at most 3 */
+#define TURNCHECK_PAGE_LENGTH(number) ((size_t)((number) >> 16 & 0xFFFFFFFF)) /* TURNCHECK_PAGED: at most 299,008 */
 
 /* Reads a record: TURNCHECK_DONE, or refusal 1 to 6. */
 uint64_t turncheck_read(const uint8_t *record, size_t record_size);
@@ -92,6 +96,13 @@ uint64_t turncheck_judge(const uint8_t *record, size_t record_size, uint8_t *lin
 /* Walks a schedule of a record's model from its start: TURNCHECK_STOPPED or TURNCHECK_REACHED with the last shared state,
  * or refusal 1 to 6 or 8 to 10. */
 uint64_t turncheck_replay(const uint8_t *record, size_t record_size, const uint8_t *schedule, size_t schedule_size);
+
+/* Walks a schedule of a record's model as turncheck_replay does, and writes its page to the front of the store, in ASCII: a line of 72
+ * characters and a line feed for each step, with the shared state and both stacks after it, and a foot line. The bytes beyond keep their
+ * value. Answers TURNCHECK_PAGED with how many bytes the page has, 73 for each step and 73 more; or refusal 1 to 6 or 8 to 10, or then 7
+ * for a store with fewer. */
+uint64_t turncheck_page(const uint8_t *record, size_t record_size, const uint8_t *schedule, size_t schedule_size, uint8_t *store,
+                        size_t store_size);
 
 #ifdef __cplusplus
 }

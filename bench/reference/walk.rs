@@ -1,22 +1,42 @@
 // The walk of a schedule from the start: the last shared state, or the number of the first fault.
 use super::{Model, Right};
 
+// Where a walk is: the turn of its last step and the shared state. The stacks are apart from it, bottom first.
+pub struct Walk {
+    turn: usize,
+    pub shared: usize,
+}
+
+pub type Stacks = [Vec<usize>; 2];
+
 pub fn walk(m: &Model, schedule: &[u8]) -> Result<usize, u64> {
     if schedule.len() % 2 != 0 || schedule.len() > 8190 {
         return Err(8);
     }
-    let mut stacks = [vec![m.a.first], vec![m.b.first]];
-    let (mut turn, mut shared) = (0, m.start);
+    let (mut walk, mut stacks) = Walk::start(m);
     for step in schedule.chunks_exact(2) {
-        let next = step[0] as usize;
-        if next < turn || 2 * m.k <= next {
+        walk.step(m, step, &mut stacks)?;
+    }
+    Ok(walk.shared)
+}
+
+impl Walk {
+    pub fn start(m: &Model) -> (Walk, Stacks) {
+        (Walk { turn: 0, shared: m.start }, [vec![m.a.first], vec![m.b.first]])
+    }
+
+    // Inline in both loops that call it, so that replay takes no longer than if it were alone.
+    #[inline(always)]
+    pub fn step(&mut self, m: &Model, step: &[u8], stacks: &mut Stacks) -> Result<(), u64> {
+        let turn = step[0] as usize;
+        if turn < self.turn || 2 * m.k <= turn {
             return Err(9);
         }
-        turn = next;
+        self.turn = turn;
         let thread = if turn % 2 == 0 { &m.a } else { &m.b };
         let rule = thread.rules.get(step[1] as usize).ok_or(10u64)?;
         let stack = &mut stacks[turn % 2];
-        if rule.before != shared || stack.last() != Some(&rule.symbol) {
+        if rule.before != self.shared || stack.last() != Some(&rule.symbol) {
             return Err(10);
         }
         stack.pop();
@@ -25,7 +45,7 @@ pub fn walk(m: &Model, schedule: &[u8]) -> Result<usize, u64> {
             Right::Swap(a) => stack.push(a),
             Right::Push(a, b) => stack.extend([b, a]),
         }
-        shared = rule.after;
+        self.shared = rule.after;
+        Ok(())
     }
-    Ok(shared)
 }

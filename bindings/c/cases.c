@@ -9,7 +9,7 @@
 #include <stdlib.h>
 #include <string.h>
 
-enum { MOST = 16384, FILLER = 0xAA };
+enum { MOST = 300000, FILLER = 0xAA };
 
 /* Bytes that are lent to a call, or that are expected of it. */
 struct bytes {
@@ -36,6 +36,8 @@ static void *call(void *unused) {
         answer = turncheck_judge(record.at, record.size, first.at, first.size, second.at, second.size);
     else if (strcmp(name, "replay") == 0)
         answer = turncheck_replay(record.at, record.size, first.at, first.size);
+    else if (strcmp(name, "page") == 0)
+        answer = turncheck_page(record.at, record.size, first.at, first.size, second.at, second.size);
     return NULL;
 }
 
@@ -92,12 +94,22 @@ static int begins(const struct bytes *store, const struct bytes *expected) {
     return 1;
 }
 
-/* The same by a word: `?` for anything, `=` for the record, no word for no bytes. */
+static void load(const char *path, struct bytes *b) {
+    FILE *file = fopen(path, "rb");
+    if (file == NULL) fail("no such file");
+    b->size = fread(b->at, 1, MOST, file);
+    fclose(file);
+}
+
+/* The same by a word: `?` for anything, `=` for the record, `@` and a name for a file, no word for no bytes. */
 static int holds(const struct bytes *store, const char *word) {
     static struct bytes expected;
     if (word != NULL && strcmp(word, "?") == 0) return 1;
     if (word != NULL && strcmp(word, "=") == 0) return begins(store, &record);
-    parse(word, &expected);
+    if (word != NULL && word[0] == '@')
+        load(word + 1, &expected);
+    else
+        parse(word, &expected);
     return begins(store, &expected);
 }
 
@@ -113,6 +125,8 @@ static void tell(uint64_t n, int read, char *words, size_t size) {
         snprintf(words, size, "%s", names[kind - TURNCHECK_WRITTEN]);
     else if (kind >= TURNCHECK_WRITTEN && kind < TURNCHECK_NONE && n == ((uint64_t)field << 16 | kind))
         snprintf(words, size, "%s:%u", names[kind - TURNCHECK_WRITTEN], field);
+    else if (kind == TURNCHECK_PAGED && n == ((uint64_t)TURNCHECK_PAGE_LENGTH(n) << 16 | kind))
+        snprintf(words, size, "page:%zu", TURNCHECK_PAGE_LENGTH(n));
     else
         snprintf(words, size, "number:%" PRIu64, n);
 }
@@ -144,16 +158,18 @@ static int stands(uint64_t number, size_t stack) {
 /* One case, by its words: the call, what is lent beside the record, the answer, what the stores then hold. */
 static int agrees(char **word, size_t stack) {
     char words[40];
-    int judge = strcmp(word[0], "judge") == 0, replay = strcmp(word[0], "replay") == 0;
+    int judge = strcmp(word[0], "judge") == 0, page = strcmp(word[0], "page") == 0;
+    int schedule = page || strcmp(word[0], "replay") == 0;
     int stores = judge ? 2 : strcmp(word[0], "write") == 0 || strcmp(word[0], "lines") == 0;
-    char **wanted = word + 1 + stores + replay;
-    if (replay) parse(word[1], &first);
+    char **wanted = word + 1 + stores + schedule + page;
+    if (schedule) parse(word[1], &first);
     if (stores > 0) lend(size_of(word[1]), &first);
-    if (stores > 1) lend(size_of(word[2]), &second);
+    if (stores > 1 || page) lend(size_of(word[2]), &second);
     uint64_t n = on_thread(word[0], stack);
     tell(n, strcmp(word[0], "read") == 0, words, sizeof words);
     if (*wanted == NULL || strcmp(words, *wanted) != 0) return 0;
     if (TURNCHECK_KIND(n) == TURNCHECK_TAKEN) return stands(n, stack);
+    if (page) return holds(&second, wanted[1]);
     if (stores > 0 && !holds(&first, wanted[1])) return 0;
     if (stores > 1 && !holds(&second, wanted[2])) return 0;
     return !judge || TURNCHECK_IS_REFUSED(n) || judged(n, stack);

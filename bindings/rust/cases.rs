@@ -61,12 +61,15 @@ fn last(l: Last) -> String {
     format!("{}:{}", if l.target { "target" } else { "state" }, l.state)
 }
 
-/// What is expected of a store, by a word: `?` for anything, `=` for the record, no word for no bytes.
+/// What is expected of a store, by a word: `?` for anything, `=` for the record, `@` and a name for a file, no word for no bytes.
 fn expects(word: Option<&&str>, record: &[u8], store: &[u8]) -> bool {
     match word {
         Some(&"?") => true,
         Some(&"=") => holds(store, record),
-        Some(text) => holds(store, &parse(text)),
+        Some(text) => match text.strip_prefix('@') {
+            Some(path) => holds(store, &std::fs::read(path).expect("no such file")),
+            None => holds(store, &parse(text)),
+        },
         None => holds(store, &[]),
     }
 }
@@ -118,6 +121,11 @@ fn agrees(record: &[u8], word: &[&str], stack: usize) -> bool {
             let mut store = lent(word[1]);
             let answer = on_thread(stack, || turncheck::lines(record, &mut store));
             told(answer, |()| "done".into()) == word[2] && expects(word.get(3), record, &store)
+        }
+        "page" => {
+            let (schedule, mut store) = (parse(word[1]), lent(word[2]));
+            let answer = on_thread(stack, || turncheck::page(record, &schedule, &mut store));
+            told(answer, |n| format!("page:{n}")) == word[3] && expects(word.get(4), record, &store)
         }
         "judge" => judged(record, &word[1..], stack),
         other => panic!("no such call: {other}"),

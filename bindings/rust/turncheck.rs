@@ -9,6 +9,8 @@ pub const RECORD_BYTES: usize = 649;
 pub const LINES_BYTES: usize = 683;
 /// The longest schedule, of 4,095 steps: what `judge` asks for, whatever the verdict.
 pub const SCHEDULE_BYTES: usize = 8190;
+/// The longest page, that of 4,095 steps: 73 bytes for each step and 73 for the foot line.
+pub const PAGE_BYTES: usize = 299008;
 
 /// Why a call refuses, with the refusal's number. The first fault of a record counts, from left to right.
 #[derive(Clone, Copy, Debug, PartialEq, Eq)]
@@ -74,6 +76,14 @@ extern "C" {
         schedule_size: usize,
     ) -> u64;
     fn turncheck_replay(record: *const u8, record_size: usize, schedule: *const u8, schedule_size: usize) -> u64;
+    fn turncheck_page(
+        record: *const u8,
+        record_size: usize,
+        schedule: *const u8,
+        schedule_size: usize,
+        store: *mut u8,
+        store_size: usize,
+    ) -> u64;
 }
 
 /// The kinds of answers that are no refusals: the low byte of a number.
@@ -86,6 +96,7 @@ const STOPPED: u16 = 36;
 const REACHED: u16 = 37;
 const TAKEN: u16 = 38;
 const NONE: u16 = 39;
+const PAGED: u16 = 40;
 
 /// A number's kind, whose upper byte is 0, and the three fields above it.
 fn parts(number: u64) -> [u16; 4] {
@@ -180,6 +191,26 @@ pub fn replay(record: &[u8], schedule: &[u8]) -> Result<Last, Refusal> {
     match parts(number) {
         [STOPPED, state, 0, 0] => Ok(Last { state, target: false }),
         [REACHED, state, 0, 0] => Ok(Last { state, target: true }),
+        _ => Err(refusal(number)),
+    }
+}
+
+/// Walks a schedule of a record's model as `replay` does, and writes its page to the front of the store, in ASCII: a line of 72 characters
+/// and a line feed for each step, with the shared state and both stacks after it, and a foot line. The bytes beyond keep their value.
+/// Answers how many bytes were written.
+pub fn page(record: &[u8], schedule: &[u8], store: &mut [u8]) -> Result<usize, Refusal> {
+    let number = unsafe {
+        turncheck_page(
+            record.as_ptr(),
+            record.len(),
+            schedule.as_ptr(),
+            schedule.len(),
+            store.as_mut_ptr(),
+            store.len(),
+        )
+    };
+    match parts(number) {
+        [PAGED, low, high, 0] => Ok(usize::from(low) + (usize::from(high) << 16)),
         _ => Err(refusal(number)),
     }
 }

@@ -1,21 +1,17 @@
 -- What a call answers of a valid model is in range: it is refused by 7 to 10, a record has at most 649 bytes, a schedule at most 4,095
--- steps, and a walk stays in the states below g.
+-- steps, a walk stays in the states below g, and a page has 73 bytes a step and 73 more.
 use mathlib.Core.Bool.{Bool, true, false, _&&_}
 use mathlib.Core.List.{List, [], _∷_}
-use mathlib.Core.Path.{_≡_, sym, _∙_}
+use mathlib.Core.Path.{_≡_, refl, sym, _∙_}
 use Prim.Native.Nat.{ℕ, zero, suc, _≤_, _<_}
 use native.Mathlib.Omega.{arith}
-use lib.Dec.{T, leb, eqb}
+use lib.Dec.{leb}
 use lib.ListN.{length}
 use Rattle.model.specs.declared.Model.{Model}
-use Rattle.model.specs.Fits.{Fits}
-use Rattle.model.specs.Rules.{applies}
 use Rattle.model.specs.Schedules.{stepsOf, mostBytes}
-use Rattle.model.specs.Results.{refused, accepted, need, andThen, unless, refuse, firstOf}
+use Rattle.model.specs.Results.{accepted, unless, refuse, firstOf}
 use Rattle.model.specs.Tables.{tableFits}
 use Rattle.model.specs.Valid.{Valid, storeRefusal}
-use Rattle.model.specs.Walk.{Step, Config, Walked, turnFits, after, fire, stepFrom, walk, ownerOf, threadOf, stackOf, startOf}
-use Rattle.model.proofs.Inside.{applies-iff, fits-of}
 use Rattle.model.proofs.Ranges.{valid-fits}
 use Rattle.writer.proofs.Lengths.{at-most}
 use Rattle.writer.specs.Writer.{recordOf}
@@ -26,9 +22,16 @@ use Rattle.reach.specs.Answer.{answerOf, outcomeOf}
 use Rattle.judge.specs.declared.Judgement.{Judgement}
 use Rattle.judge.specs.declared.Judgement.the-variants as judgement
 use Rattle.judge.specs.Answer.{refusalOf, Answers}
+use Rattle.replay.specs.declared.Replayed.{Replayed}
 use Rattle.replay.specs.declared.Replayed.the-variants as replayed
-use Rattle.replay.specs.Replay.{sizeFits, replayedBy, replayOf}
-use Rattle.ffi.specs.Replies.{ReplyFits, writeReply, linesReply, judgeReply, replayReply}
+use Rattle.replay.specs.Replay.{replayOf}
+use Rattle.replay.proofs.Ranges.{Ends, replay-ends}
+use Rattle.page.specs.declared.Paged.{Paged}
+use Rattle.page.specs.declared.Paged.the-variants as paging
+use Rattle.page.specs.Answer.{replayRefusal, pageRefusal, pagedBy, pagedOf}
+use Rattle.page.specs.Page.{pageOf}
+use Rattle.page.proofs.Pages.{pageable}
+use Rattle.ffi.specs.Replies.{ReplyFits, writeReply, linesReply, judgeReply, replayReply, pageReply}
 
 -- A valid model is refused by 7 alone, where a store is too small.
 seven : (m : Model) (room : Bool) → Valid m → storeRefusal m room ≤ 7
@@ -73,52 +76,28 @@ judge-range m lines schedule (judgement.Refused n) v a =
     let low : refusalOf m lines schedule ≤ 7 = seven m (tableFits m lines && leb mostBytes schedule) v in
     (omega (arith, a .0, a .1), omega (arith, a .1, low))
 
--- A walk is refused by 9 or 10, or ends in a state below g.
-abbrev Ends : ℕ → Walked → Type 0
-Ends g (refused n) = (1 ≤ n) × (n ≤ 10)
-Ends g (accepted c) = c .shared < g
-
-module _ {m : Model} (f : Fits m) where
-  fired : (c : Config) (s : Step) (w : List ℕ) → Ends (m .g) (fire m c s w)
-  unfolding fire
-  fired c s [] = (omega arith, omega arith)
-  fired c s (top ∷ w) = go (applies (threadOf (ownerOf (s .turn)) m) (s .rule) (c .shared) top) (λ t. applies-iff _ _ _ _ .0 t .listed)
-    where
-      go : (b : Bool) → (T b → s .rule < threadOf (ownerOf (s .turn)) m .count) → Ends (m .g) (need 10 b (accepted (after m c s w)))
-      go true h = fits-of f (ownerOf (s .turn)) .rules (s .rule) (h tt) .next
-      go false h = (omega arith, omega arith)
-
-  stepped : (c : Config) (s : Step) → Ends (m .g) (stepFrom m c s)
-  unfolding stepFrom
-  stepped c s = go (turnFits m c s)
-    where
-      go : (b : Bool) → Ends (m .g) (need 9 b (fire m c s (stackOf (ownerOf (s .turn)) (c .stacks))))
-      go true = fired c s _
-      go false = (omega arith, omega arith)
-
-  onward : (x : Walked) (next : Config → Walked) → Ends (m .g) x → ((d : Config) → d .shared < m .g → Ends (m .g) (next d))
-      → Ends (m .g) (andThen x next)
-  onward (refused n) next e later = e
-  onward (accepted d) next e later = later d e
-
-  walks : (ss : List Step) (c : Config) → c .shared < m .g → Ends (m .g) (walk m c ss)
-  unfolding walk
-  walks [] c h = h
-  walks (s ∷ ss) c h = onward (stepFrom m c s) (λ d. walk m d ss) (stepped c s) (λ d k. walks ss d k)
-
 -- What replay answers: the refusal, or a state below g.
 pub replay-range : (m : Model) (bytes : List ℕ) → Valid m → ReplyFits (replayReply (replayOf m bytes))
-unfolding replayOf firstOf
-replay-range m bytes v = rw v (go (sizeFits bytes) (walk m (startOf m) (stepsOf bytes)) (walks f (stepsOf bytes) (startOf m) (f .start)))
+replay-range m bytes v = go (replayOf m bytes) (replay-ends m bytes v)
   where
-    f : Fits m
-    f = valid-fits m .0 v
+    go : (r : Replayed) → Ends (m .g) r → ReplyFits (replayReply r)
+    go (replayed.Accepted q true) h = omega (arith, valid-fits m .0 v .g)
+    go (replayed.Accepted q false) h = omega (arith, valid-fits m .0 v .g)
+    go (replayed.Refused n) h = (h .0, omega (arith, h .1))
 
-    state : (q : ℕ) (b : Bool) → q < m .g → ReplyFits (replayReply (replayed.Accepted (record { 0 = q }) b))
-    state q true h = omega (arith, f .g)
-    state q false h = omega (arith, f .g)
+-- What the call that makes a page answers: the refusal, or a length of at most 299,008.
+pub page-range : (m : Model) (l : List ℕ) (size : ℕ) → Valid m → ReplyFits (pageReply (pagedOf m l size))
+unfolding pagedOf pageRefusal firstOf
+page-range m l size v = go (replayOf m l) refl (replay-ends m l v) (leb (length (pageOf m (stepsOf l))) size)
+  where
+    go : (r : Replayed) → replayOf m l ≡ r → Ends (m .g) r → (b : Bool)
+        → ReplyFits (pageReply (pagedBy (firstOf (replayRefusal r ∷ refuse 7 b ∷ [])) (pageOf m (stepsOf l))))
+    go (replayed.Accepted q reached) e h true = let p = pageable m l e in omega (arith, p .size, p .most)
+    go (replayed.Accepted q reached) e h false = (omega arith, omega arith)
+    go (replayed.Refused zero) e h b = absurd (omega (arith, h .0))
+    go (replayed.Refused (suc n)) e h b = (omega arith, omega (arith, h .1))
 
-    go : (b : Bool) (w : Walked) → Ends (m .g) w → ReplyFits (replayReply (replayedBy m (unless (firstOf (refuse 8 b ∷ [])) w)))
-    go false w e = (omega arith, omega arith)
-    go true (refused n) e = (omega (arith, e .0), omega (arith, e .1))
-    go true (accepted c) e = state (c .shared) (eqb (c .shared) (m .target .0)) e
+-- So a length that is answered fits.
+pub page-fits : (m : Model) (l : List ℕ) (size : ℕ) {p : Paged} {n : ℕ} → Valid m → p ≡ pagedOf m l size → p ≡ paging.Length n
+    → n < 4294967296
+page-fits m l size v e f = rw (sym e ∙ f) at (page-range m l size v)

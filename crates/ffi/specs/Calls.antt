@@ -9,11 +9,12 @@ use Rattle.record.specs.Reader.{Read, readOf}
 use Rattle.record.specs.Written.{writtenOf, storeOf}
 use Rattle.reach.specs.Answer.{outcomeOf, Leaves}
 use Rattle.replay.specs.Replay.{replayOf}
+use Rattle.page.specs.Answer.{pagedOf, pageStore}
 use Rattle.judge.specs.declared.Judgement.{Judgement}
 use Rattle.judge.specs.Answer.{refusalOf, Answers, LeavesLines, LeavesSchedule}
 use Rattle.tray.specs.Answer.{firstReadingOf, Stands}
 use Rattle.tray.specs.Tray.{trayOf}
-use Rattle.ffi.specs.Replies.{refused, done, Says, writeReply, linesReply, judgeReply, replayReply, firstReply}
+use Rattle.ffi.specs.Replies.{refused, done, Says, writeReply, linesReply, judgeReply, replayReply, pageReply, firstReply}
 
 -- What holds by what reading comes to: one thing of a refusal's number, or another of the model.
 abbrev pub Either : (ℕ → Type 0) → (Model → Type 0) → Read Model → Type 0
@@ -53,6 +54,12 @@ JudgeCall bytes r lines linesAfter schedule scheduleAfter =
 -- Replaying a schedule of the model that was read: what replay answers.
 abbrev pub ReplayCall : List ℕ → List ℕ → ℕ → Type 0
 ReplayCall bytes schedule r = Either (λ n. Says r (refused n)) (λ m. Says r (replayReply (replayOf m schedule))) (readOf bytes)
+
+-- The page of a schedule of the model that was read: what that call answers, with the store as it leaves it.
+abbrev pub PageCall : List ℕ → List ℕ → ℕ → List ℕ → List ℕ → Type 0
+PageCall bytes schedule r old new =
+    Either (λ n. Says r (refused n) × (new ≡ old))
+    (λ m. Says r (pageReply (pagedOf m schedule (length old))) × (new ≡ pageStore m schedule old)) (readOf bytes)
 
 -- Reading the first record of a tray: what that call answers; a record that is taken stands at the front with as many bytes as are said.
 abbrev pub FirstCall : List ℕ → ℕ → Type 0

@@ -5,6 +5,8 @@ use Prim.Native.Nat.{ℕ, _+_, _*_, _/_, _%_, _≤_, _<_}
 use lib.Dec.{eqb}
 use Rattle.judge.specs.declared.Judgement.{Judgement}
 use Rattle.judge.specs.declared.Judgement.the-variants as judgement
+use Rattle.page.specs.declared.Paged.{Paged}
+use Rattle.page.specs.declared.Paged.the-variants as paging
 use Rattle.reach.specs.declared.Outcome.{Outcome}
 use Rattle.reach.specs.declared.Outcome.the-variants as outcome
 use Rattle.record.specs.declared.Written.{Written}
@@ -16,7 +18,7 @@ use Rattle.tray.specs.declared.FirstRecord.the-variants as firstRecord
 
 -- Everything that a call answers: a refusal's number; done; the length of a record that was written; the three verdicts, Found with
 -- its steps; the last shared state of a replay that stopped elsewhere, or that reached the target; the length of the record taken from
--- the front of a tray, or that there is none.
+-- the front of a tray, or that there is none; the length of a page.
 pub data Reply : Type 0 where
   refused : ℕ → Reply
   done : Reply
@@ -26,12 +28,14 @@ pub data Reply : Type 0 where
   stopped reached : ℕ → Reply
   taken : ℕ → Reply
   none : Reply
+  paged : ℕ → Reply
 
 -- A kind in the low byte, and three fields of 16 bits from bit 16 on.
 abbrev pub packed : ℕ → ℕ → ℕ → ℕ → ℕ
 packed kind x y z = kind + 65536 * (x + 65536 * (y + 65536 * z))
 
--- The number of a reply: its kind, which is a refusal's own number, 0, or from 32 on, and what it carries in the first field.
+-- The number of a reply: its kind, which is a refusal's own number, 0, or from 32 on, and what it carries in the first field; a page's
+-- length reaches into the second.
 abbrev pub numberOf : Reply → ℕ
 numberOf (refused n) = packed n 0 0 0
 numberOf done = packed 0 0 0 0
@@ -43,23 +47,26 @@ numberOf (stopped q) = packed 36 q 0 0
 numberOf (reached q) = packed 37 q 0 0
 numberOf (taken n) = packed 38 n 0 0
 numberOf none = packed 39 0 0 0
+numberOf (paged n) = packed 40 n 0 0
 
--- The reply of a kind and a first field; a kind that no other reply has is a refusal's number.
-unfoldable pub replyBy : ℕ → ℕ → Reply
-replyBy kind x =
+-- The reply of a kind, a first field, and the first two fields as one; a kind that no other reply has is a refusal's number.
+unfoldable pub replyBy : ℕ → ℕ → ℕ → Reply
+replyBy kind x both =
     cond (eqb kind 0) done
     (cond (eqb kind 32) (written x)
     (cond (eqb kind 33) clear
     (cond (eqb kind 34) long
     (cond (eqb kind 35) (found x)
     (cond (eqb kind 36) (stopped x)
-    (cond (eqb kind 37) (reached x) (cond (eqb kind 38) (taken x) (cond (eqb kind 39) none (refused kind)))))))))
+    (cond (eqb kind 37) (reached x)
+    (cond (eqb kind 38) (taken x)
+    (cond (eqb kind 39) none (cond (eqb kind 40) (paged both) (refused kind))))))))))
 
--- The reply that a number tells, by its low byte and its first field.
+-- The reply that a number tells, by its low byte and its fields.
 abbrev pub replyOf : ℕ → Reply
-replyOf r = replyBy (r % 256) (r / 65536 % 65536)
+replyOf r = replyBy (r % 256) (r / 65536 % 65536) (r / 65536 % 4294967296)
 
--- A reply whose number tells it: refusals are 1 to 31, and what is carried fits in 16 bits.
+-- A reply whose number tells it: refusals are 1 to 31, and what is carried fits in 16 bits, or a page's length in 32.
 abbrev pub ReplyFits : Reply → Type 0
 ReplyFits (refused n) = (1 ≤ n) × (n ≤ 31)
 ReplyFits done = Unit {0}
@@ -71,6 +78,7 @@ ReplyFits (stopped q) = q < 65536
 ReplyFits (reached q) = q < 65536
 ReplyFits (taken n) = n < 65536
 ReplyFits none = Unit {0}
+ReplyFits (paged n) = n < 4294967296
 
 -- A number says a reply: it is that reply's number, and what it tells is that reply.
 pub record Says (r : ℕ) (a : Reply) : Type 0 where
@@ -99,6 +107,11 @@ abbrev pub replayReply : Replayed → Reply
 replayReply (replayed.Accepted shared true) = reached (shared .0)
 replayReply (replayed.Accepted shared false) = stopped (shared .0)
 replayReply (replayed.Refused n) = refused n
+
+-- The reply to a call that makes a page.
+abbrev pub pageReply : Paged → Reply
+pageReply (paging.Length n) = paged n
+pageReply (paging.Refused n) = refused n
 
 -- The reply to a call that reads the first record of a tray.
 abbrev pub firstReply : FirstRecord → Reply

@@ -1,9 +1,10 @@
 // The calls for C and Rust: bytes in, a number out, and a record in place of a model. The numbers are defined in specs/.
 ghost use mathlib.Core.Path.{_≡_};
 ghost use Prim.Native.Nat.{_<_};
-ghost use Rattle.ffi.specs.Calls.{ReadCall, WriteCall, LinesCall, JudgeCall, ReplayCall, FirstCall};
+ghost use Rattle.ffi.specs.Calls.{ReadCall, WriteCall, LinesCall, JudgeCall, ReplayCall, PageCall, FirstCall};
 ghost use Rattle.ffi.specs.Replies.{packed};
 use judge::Judgement;
+use page::Paged;
 use reach::Outcome;
 use record::Answer;
 use record::Written;
@@ -28,6 +29,8 @@ const REACHED: u64 = 37;
 const TAKEN: u64 = 38;
 
 const NONE: u64 = 39;
+
+const PAGED: u64 = 40;
 
 // Reads a record: done where it is accepted.
 #[no_mangle]
@@ -115,6 +118,22 @@ pub extern "C" fn turncheck_replay(bytes: &[u8], schedule: &[u8]) -> u64
     }
 }
 
+// Reads a record and puts the page of a schedule of its model at the front of the store: paged, with its length.
+#[no_mangle]
+pub extern "C" fn turncheck_page(bytes: &[u8], schedule: &[u8], store: &mut [u8]) -> u64
+    ensures { λ r. ⌜ PageCall (now (bytes .entry)) (now (schedule .entry)) r (now (store .entry)) (now (store .exit)) ⌝ }
+{
+    let reading = record::read(bytes);
+    let answer = reading.answer;
+    match answer {
+        Answer::Accepted => match page::page(reading.model, schedule, store) {
+            Paged::Length(n) => with_field(PAGED, n as u64),
+            Paged::Refused(n) => n as u64,
+        },
+        Answer::Refused(n) => n as u64,
+    }
+}
+
 // Reads the first record of a tray: taken, with its length, or none.
 #[no_mangle]
 pub extern "C" fn turncheck_first(tray: &[u8]) -> u64
@@ -129,9 +148,9 @@ pub extern "C" fn turncheck_first(tray: &[u8]) -> u64
     }
 }
 
-// The number of a kind that carries x in its first field.
+// The number of a kind that carries x in its first field, or in its first two where x is longer.
 fn with_field(kind: u64, x: u64) -> u64
-    requires { ⌜ (kind < 256) × (x < 65536) ⌝ }
+    requires { ⌜ (kind < 256) × (x < 4294967296) ⌝ }
     ensures { λ r. ⌜ r ≡ packed kind x 0 0 ⌝ }
 {
     kind + 65536 * x

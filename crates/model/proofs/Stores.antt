@@ -39,6 +39,13 @@ bytes-steps [] e = refl
 bytes-steps (t ∷ []) e = absurd (omega arith)
 bytes-steps (t ∷ r ∷ rest) e = ap (λ l. t ∷ r ∷ l) (bytes-steps rest (omega arith))
 
+-- Two bytes are a step.
+pub length-steps : (bs : List ℕ) → length (stepsOf bs) ≡ length bs / 2
+unfolding stepsOf
+length-steps [] = refl
+length-steps (t ∷ []) = refl
+length-steps (t ∷ r ∷ rest) = omega (arith, length-steps rest)
+
 -- Where n steps stand at the front of a store, its front is their bytes ..
 pub stored-front : {Run : List Step → Type 0} {n : ℕ} {old new : List ℕ} (s : Stored Run n 0 old new) → 2 * n ≤ length old
     → take (2 * n) new ≡ bytesOf (s .steps)

@@ -14,7 +14,7 @@ use Rattle.model.proofs.Ranges.{valid-fits}
 use Rattle.model.proofs.Results.{due}
 use Rattle.replay.specs.declared.Replayed.the-variants.{Refused}
 use Rattle.replay.specs.Replay.{sizeFits, replayedBy, replayOf}
-use Rattle.replay.specs.Stack.{Counted}
+use Rattle.walk.specs.Stack.{Counted}
 
 -- A valid model's rules are within their arrays.
 pub counted : (m : Model) {found : ℕ} → found ≡ faultOf m → found ≡ 0 → Counted m

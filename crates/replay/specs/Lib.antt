@@ -1,2 +1,1 @@
 pub mod Replay
-pub mod Stack

@@ -1,7 +1,6 @@
 pub mod Counting
 pub mod Fixed
 pub mod Listing
-pub mod Numbers
 pub mod Putting
 pub mod Sizes
 pub mod Telling

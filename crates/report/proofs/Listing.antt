@@ -1,7 +1,7 @@
 -- The lines of a schedule put step by step: the lines that stand and those of the steps left are all of them.
-use mathlib.Core.List.{List, [], _∷_, _++_, append-assoc, append-nil}
+use mathlib.Core.List.{List, [], _++_, append-assoc, append-nil}
 use mathlib.Core.Path.{_≡_, refl, _∙_}
-use Prim.Native.Nat.{ℕ, _+_, _*_, _/_, _%_, _≤_, _<_}
+use Prim.Native.Nat.{ℕ, _+_, _*_, _/_, _≤_, _<_}
 use native.Mathlib.Omega.{arith}
 use lib.ListN.{length, drop, length-append, length-drop}
 use lib.Seq.{length-sets}
@@ -9,20 +9,7 @@ use Rattle.writer.specs.Put.{Put}
 use Rattle.writer.proofs.Puts.{nothing, _then_}
 use Rattle.model.specs.Schedules.{stepsOf, stepAt, stepsFrom}
 use Rattle.model.proofs.Stores.{first-step, short}
-use Rattle.replay.proofs.Steps.{even-turn, odd-turn}
-use Rattle.report.specs.Text.{decimal, line, stepLine, stepLines}
-
--- A step of an even turn is A's ..
-pub even-line : (t r : ℕ) → t % 2 ≡ 0
-    → stepLine (record { turn = t; rule = r }) ≡ decimal t ++ line (32 ∷ 65 ∷ 32 ∷ []) r
-unfolding stepLine
-even-line t r h = rw (even-turn t h)
-
--- .. and one of an odd turn is B's.
-pub odd-line : (t r : ℕ) → (t % 2 ≡ 0 → ⊥)
-    → stepLine (record { turn = t; rule = r }) ≡ decimal t ++ line (32 ∷ 66 ∷ 32 ∷ []) r
-unfolding stepLine
-odd-line t r h = rw (odd-turn t h)
+use Rattle.report.specs.Text.{stepLine, stepLines}
 
 -- The lines of the first i steps of a schedule stand.
 pub record Listed (l s₀ s : List ℕ) (at next i : ℕ) : Type 0 where

@@ -1,28 +1,11 @@
--- A word put byte by byte: the first i bytes stand, and the next one follows them.
-use mathlib.Core.List.{List, []}
-use mathlib.Core.Path.{refl}
-use Prim.Native.Nat.{ℕ, _+_, _≤_, _<_}
-use native.Mathlib.Numerals.{add-one}
+-- A text at the front of a store, said by its kind.
+use mathlib.Core.List.{List}
+use Prim.Native.Nat.{ℕ, _≤_}
 use native.Mathlib.Omega.{arith}
-use lib.ListN.{length, take, set, getD}
-use lib.Seq.{take-suc, take-all, sets-eq, length-sets}
+use lib.ListN.{length}
+use lib.Seq.{sets-eq, length-sets}
 use Rattle.writer.specs.Put.{Put}
-use Rattle.writer.proofs.Puts.{_then_}
 use Rattle.report.specs.Prints.{Begins}
-
--- Nothing stands yet ..
-pub put-start : (l : List ℕ) (at : ℕ) → Put l l at (at + 0) []
-put-start l at = record { stored = refl; ends = omega arith }
-
--- .. the next byte follows ..
-pub put-next : {l m : List ℕ} (w : List ℕ) {at i : ℕ} → i < length w → Put l m at (at + i) (take i w)
-    → Put l (set m (at + i) (getD w i 0)) at (at + (i + 1)) (take (i + 1) w)
-put-next w {at} {i} h p =
-    rw (add-one i, take-suc w i 0 h) (p then record { stored = refl; ends = omega arith })
-
--- .. until all of it stands.
-pub put-end : {l m : List ℕ} (w : List ℕ) {at i : ℕ} → length w ≤ i → Put l m at (at + i) (take i w) → Put l m at (at + i) w
-put-end w {i = i} h p = rw (take-all i w h) at p
 
 -- A text that was put at the front of a store, within it.
 pub held : {Kind : List ℕ → Type 0} {l m a : List ℕ} {r : ℕ} → Kind a → Put l m 0 r a → r ≤ length l → Begins Kind r l m

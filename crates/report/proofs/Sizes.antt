@@ -20,8 +20,9 @@ use Rattle.model.proofs.Results.{through}
 use Rattle.model.proofs.Steps.{stepped}
 use Rattle.costs.specs.Lanes.{fullLines}
 use Rattle.report.specs.Prints.{longestText}
-use Rattle.report.specs.Text.{line, stepLine, stepLines, countLine, foundWord}
-use Rattle.report.proofs.Numbers.{digits-1, digits-2, digits-4, length-line}
+use Rattle.text.specs.Text.{line}
+use Rattle.text.proofs.Numbers.{digits-1, digits-2, digits-4, length-line}
+use Rattle.report.specs.Text.{stepLine, stepLines, countLine, foundWord}
 
 few-rules : {m : Model} → Fits m → (i : ThreadId) → threadOf i m .count ≤ 64
 few-rules f A = f .a .count

@@ -25,8 +25,9 @@ use Rattle.record.specs.Reader.{Read}
 use Rattle.judge.specs.Answer.{refusalOf}
 use Rattle.report.specs.Prints.{Told, TextFor, longestText}
 use Rattle.report.specs.Table.{standing, Fills}
-use Rattle.report.specs.Text.{line, refusedWord, foundWord, clearLine, longLine, stepLines, countLines}
-use Rattle.report.proofs.Numbers.{digits-4, length-line}
+use Rattle.text.specs.Text.{line}
+use Rattle.text.proofs.Numbers.{digits-4, length-line}
+use Rattle.report.specs.Text.{refusedWord, foundWord, clearLine, longLine, stepLines, countLines}
 use Rattle.report.proofs.Sizes.{powers-low, found-short}
 
 -- A valid model is not refused by the judge where the stores have 683 and 8,190 bytes.

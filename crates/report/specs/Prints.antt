@@ -13,7 +13,8 @@ use Rattle.model.specs.Runs.{Reaches, Marked}
 use Rattle.model.specs.Schedules.{Shown}
 use Rattle.model.specs.Verdict.{Verdict, clear, long, found, Judged}
 use Rattle.record.specs.Reader.{Read, readOf}
-use Rattle.report.specs.Text.{line, refusedWord, foundWord, clearLine, longLine, stepLines, countLines}
+use Rattle.text.specs.Text.{line}
+use Rattle.report.specs.Text.{refusedWord, foundWord, clearLine, longLine, stepLines, countLines}
 
 -- The text of Clear: `clear`, and for each length from 1 to 2K how many lines of that length are marked. The lines that are
 -- counted are those of a set that has just the marked ones.

@@ -1,26 +1,11 @@
 -- The text that is printed, byte by byte, in ASCII.
-use mathlib.Core.Bool.{Bool, cond}
+use mathlib.Core.Bool.{Bool}
 use mathlib.Core.List.{List, [], _∷_, _++_}
-use Prim.Native.Nat.{ℕ, zero, suc, _+_, _/_, _%_, _^_}
-use lib.Dec.{ltb}
+use Prim.Native.Nat.{ℕ, zero, suc, _+_, _^_}
 use Rattle.model.specs.Bits.{oneIf}
 use Rattle.model.specs.Lines.{digits}
-use Rattle.model.specs.declared.ThreadId.{ThreadId}
-use Rattle.model.specs.declared.ThreadId.the-variants.{A, B}
 use Rattle.model.specs.Walk.{ownerOf, Step}
-
--- A number in base ten without leading zeros, where it has no more digits than `places`.
-unfoldable pub decimalIn : ℕ → ℕ → List ℕ
-decimalIn zero n = []
-decimalIn (suc places) n = cond (ltb n 10) ((48 + n) ∷ []) (decimalIn places (n / 10) ++ ((48 + n % 10) ∷ []))
-
--- A number in base ten without leading zeros; it has no more than n + 1 digits.
-abbrev pub decimal : ℕ → List ℕ
-decimal n = decimalIn (suc n) n
-
--- A line that ends with a number: a word in front of it, and byte 0A behind it.
-unfoldable pub line : List ℕ → ℕ → List ℕ
-line word n = word ++ decimal n ++ (10 ∷ [])
+use Rattle.text.specs.Text.{decimal, line, letter}
 
 -- `refused` and a space.
 abbrev pub refusedWord : List ℕ
@@ -37,11 +22,6 @@ clearLine = 99 ∷ 108 ∷ 101 ∷ 97 ∷ 114 ∷ 10 ∷ []
 -- The line `long`.
 abbrev pub longLine : List ℕ
 longLine = 108 ∷ 111 ∷ 110 ∷ 103 ∷ 10 ∷ []
-
--- The letter of a thread.
-abbrev pub letter : ThreadId → ℕ
-letter A = 65
-letter B = 66
 
 -- The line of a step: its turn, the letter of that turn's thread and the rule's number, with a space between them.
 unfoldable pub stepLine : Step → List ℕ

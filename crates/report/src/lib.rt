@@ -9,7 +9,6 @@ use model::Model;
 use record::Answer;
 
 mod lines;
-mod text;
 
 // The bytes of the longest text.
 const LONGEST_TEXT: usize = 28676;

@@ -8,8 +8,8 @@ ghost use Rattle.model.specs.Schedules.{stepsOf};
 ghost use Rattle.model.specs.Tables.{bitAt};
 ghost use Rattle.writer.specs.Put.{Put};
 ghost use Rattle.report.specs.Table.{Fills, standing};
-ghost use Rattle.report.specs.Text.{line, foundWord, clearLine, stepLine, stepLines, countOf, countLine, countLines};
-use crate::text;
+ghost use Rattle.text.specs.Text.{line};
+ghost use Rattle.report.specs.Text.{foundWord, clearLine, stepLine, stepLines, countOf, countLine, countLines};
 use costs::parts;
 
 // Puts `found`, the number of steps, and a line for each step of a schedule.
@@ -45,11 +45,8 @@ fn put_step(store: &mut [u8], at: usize, turn: u8, rule: u8) -> usize
     ensures { λ r. ⌜ Put (now (store .entry)) (now (store .exit)) at r (stepLine (record { turn = turn; rule = rule })) ⌝ }
 {
     let next = text::put_number(store, at, turn as u64);
-    if turn % 2 == 0 {
-        text::put_line(store, next, b" A ", rule as u64)
-    } else {
-        text::put_line(store, next, b" B ", rule as u64)
-    }
+    let word = [b' ', text::letter_of(turn), b' '];
+    text::put_line(store, next, &word, rule as u64)
 }
 
 // Puts `clear`, and for each length how many of its lines are marked in a line table.

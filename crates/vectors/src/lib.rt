@@ -81,7 +81,9 @@ fn wide(b: u8) -> usize
 }
 
 // A number of two bytes, the low one first; 0 past the end.
-pub fn number_at(s: &[u8], at: usize) -> usize {
+pub fn number_at(s: &[u8], at: usize) -> usize
+    ensures { λ r. ⌜ r < 65536 ⌝ }
+{
     if at < s.len() {
         wide(s[at]) + 256 * wide(byte_at(s, at + 1))
     } else {
@@ -97,11 +99,29 @@ pub fn part_at(s: &[u8], at: usize) -> Span
     if n <= at {
         return Span { start: n, end: n };
     }
-    if n - at <= 2 {
+    part_of(n, at, 2, number_at(s, at))
+}
+
+// The same with a length in four bytes.
+pub fn long_part_at(s: &[u8], at: usize) -> Span
+    ensures { λ r. ⌜ (r .start ≤ r .end) × (r .end ≤ length (now (s .entry))) ⌝ }
+{
+    let n = s.len();
+    if n <= at {
         return Span { start: n, end: n };
     }
-    let start = at + 2;
-    let size = number_at(s, at);
+    part_of(n, at, 4, number_at(s, at) + 65536 * number_at(s, at + 2))
+}
+
+// The part of `size` bytes behind a length that stands in `bytes` bytes at a place of a file of n bytes.
+fn part_of(n: usize, at: usize, bytes: usize, size: usize) -> Span
+    requires { ⌜ at < n ⌝ }
+    ensures { λ r. ⌜ (r .start ≤ r .end) × (r .end ≤ n) ⌝ }
+{
+    if n - at <= bytes {
+        return Span { start: n, end: n };
+    }
+    let start = at + bytes;
     if size <= n - start {
         Span {
             start: start,

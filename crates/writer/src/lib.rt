@@ -139,7 +139,7 @@ fn put_field(s: &mut [u8], at: usize, absent: u8, v: u8) -> usize
 }
 
 // One byte.
-fn put_byte(s: &mut [u8], at: usize, b: u8) -> usize
+pub fn put_byte(s: &mut [u8], at: usize, b: u8) -> usize
     requires { ⌜ at + 1 ≤ length (now s) ⌝ }
     ensures { λ r. ⌜ Put (now (s .entry)) (now (s .exit)) at r (b ∷ []) ⌝ }
 {

@@ -1,7 +1,7 @@
 -- `turncheck_first` meets its contract: each arm has the number of its answer.
-use borrow.Author.Needs.{needs}
 use mathlib.Core.Path.{refl}
 use native.Mathlib.Omega.{arith}
+use borrow.Author.Needs.{needs}
 use Rattle.ffi.proofs.Replies.{alone}
 use Rattle.ffi.proofs.Trays.{first-fits, first-answered}
 use Rattle.ffi.proofs.turncheck_first.Statement.{statement}
@@ -18,7 +18,7 @@ enum-known-answer c = search needs
 
 with-field-requires : tie.Need-with-field-requires
 with-field-requires c κs =
-    (omega arith, first-fits _ _ (c .before .before .before .first .ensures) (c .before .answer .given .1))
+    let low = first-fits _ _ (c .before .before .before .first .ensures) (c .before .answer .given .1) in (omega arith, omega arith)
 
 enum-known-answer-2 : tie.Need-enum-known-answer-2
 enum-known-answer-2 c = search needs

@@ -1,7 +1,7 @@
 -- `turncheck_write` meets its contract: the number is that of the reader or of the writer, whose length is that of a record.
-use borrow.Author.Needs.{needs}
 use mathlib.Core.Path.{refl, sym, _∙_}
 use native.Mathlib.Omega.{arith}
+use borrow.Author.Needs.{needs}
 use Rattle.ffi.specs.Replies.{writeReply}
 use Rattle.ffi.proofs.Ranges.{write-range, length-fits}
 use Rattle.ffi.proofs.Records.{was-read, was-refused}
@@ -26,7 +26,7 @@ with-field-requires c κs =
     let arm = c .before .before .before .before .before .before .before in
     let m = was-read _ (arm .before .before .read .ensures) (arm .enum-told .given .1) in
     let wrote = c .before .before .before .before .before .write .ensures in
-    (omega arith, length-fits _ _ (m .valid) (wrote .0) (c .before .n .given .1))
+    (omega arith, omega (arith, length-fits _ _ (m .valid) (wrote .0) (c .before .n .given .1)))
 
 enum-known-n-2 : tie.Need-enum-known-n-2
 enum-known-n-2 c = search needs

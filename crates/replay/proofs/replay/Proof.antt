@@ -1,7 +1,6 @@
 -- `replay` meets its contract: its tests are the definition's, in order, and `steps` walks the schedule from the start.
 use native.Mathlib.Omega.{arith}
 use borrow.Author.Needs.{needs}
-use Rattle.replay.specs.Stack.{topFirst}
 use Rattle.replay.proofs.Answers.{faulty, counted, uneven, too-long, walked}
 use Rattle.replay.proofs.replay.Statement.{statement}
 use Rattle.replay.proofs.replay.Tie as tie
@@ -18,11 +17,14 @@ returns-2 c = uneven _ _ (c .before .before .fault .ensures) (omega arith) (c .i
 returns-3 : tie.Need-returns-3
 returns-3 c = too-long _ _ (c .before .before .before .fault .ensures) (omega arith) (omega arith) (omega arith)
 
-array-write-a : tie.Need-array-write-a
-array-write-a c = search needs
+slice-aggregate-start : tie.Need-slice-aggregate-start
+slice-aggregate-start c = search needs
 
-array-write-b : tie.Need-array-write-b
-array-write-b c = search needs
+slice-aggregate-start-2 : tie.Need-slice-aggregate-start-2
+slice-aggregate-start-2 c = search needs
+
+start-requires : tie.Need-start-requires
+start-requires c κs = search needs
 
 slice-aggregate-steps : tie.Need-slice-aggregate-steps
 slice-aggregate-steps c = search needs
@@ -31,30 +33,29 @@ slice-aggregate-steps-2 : tie.Need-slice-aggregate-steps-2
 slice-aggregate-steps-2 c = search needs
 
 steps-requires : tie.Need-steps-requires
-steps-requires c κs = (
-  counted _ (c .before .before .before .before .before .fault .ensures) (omega arith),
-  record { first = omega arith; second = omega arith },
-)
+steps-requires c κs =
+    let start = c .before .before .before .before .start .ensures in
+    (counted _ (c .before .before .before .before .before .before .before .before .before .before .fault .ensures) (omega arith), record { first = omega (arith, start .first); second = omega (arith, start .second) })
 
-enum-known-walked : tie.Need-enum-known-walked
-enum-known-walked c = search needs
+enum-known-w : tie.Need-enum-known-w
+enum-known-w c = search needs
 
-enum-known-walked-2 : tie.Need-enum-known-walked-2
-enum-known-walked-2 c = search needs
+enum-known-n : tie.Need-enum-known-n
+enum-known-n c = search needs
 
 returns-4 : tie.Need-returns-4
-unfolding topFirst
 returns-4 c =
-    let d = c .before .before .before .before .before .before .before in
-    walked _ _ (d .before .before .before .before .before .before .fault .ensures) (omega arith) (omega arith) (omega arith)
-    (rw (c .before .before .before .walked .given .1) at (d .steps .ensures))
+    let walk = c .before .before .before .before .before .before .before in
+    let tests = walk .before .before .before .before .before .before .before .before in
+    walked _ _ (tests .before .before .before .fault .ensures) (tests .before .before .if1 .left) (tests .before .if2 .left) (tests .if3 .left)
+    (rw (c .before .before .before .w .given .1, walk .before .before .before .before .before .start .ensures .config) at (walk .steps .ensures .0))
 
 returns-5 : tie.Need-returns-5
-unfolding topFirst
 returns-5 c =
-    let d = c .before .before .before .before .before in
-    walked _ _ (d .before .before .before .before .before .before .fault .ensures) (omega arith) (omega arith) (omega arith)
-    (rw (c .before .walked2 .given .1) at (d .steps .ensures))
+    let walk = c .before .before .before .before .before in
+    let tests = walk .before .before .before .before .before .before .before .before in
+    walked _ _ (tests .before .before .before .fault .ensures) (tests .before .before .if1 .left) (tests .before .if2 .left) (tests .if3 .left)
+    (rw (c .before .n .given .1, walk .before .before .before .before .before .start .ensures .config) at (walk .steps .ensures .0))
 
 pub replay-spec : {M : Type 1} → statement M
 replay-spec =
@@ -64,12 +65,13 @@ replay-spec =
     returns
     returns-2
     returns-3
-    array-write-a
-    array-write-b
+    slice-aggregate-start
+    slice-aggregate-start-2
+    start-requires
     slice-aggregate-steps
     slice-aggregate-steps-2
     steps-requires
-    enum-known-walked
-    enum-known-walked-2
+    enum-known-w
+    enum-known-n
     returns-4
     returns-5)

@@ -1,0 +1,6 @@
+pub mod Answers
+pub mod Pages
+pub mod Printing
+pub mod Shown
+pub mod Turns
+pub mod Widths

@@ -1,0 +1,82 @@
+-- What replay answers is in range: a walk is refused by 9 or 10 and stays in the states below g, and what is refused before it has a
+-- number from 3 on.
+use mathlib.Core.Bool.{Bool, true, false}
+use mathlib.Core.List.{List, [], _∷_}
+use mathlib.Core.Path.{_≡_, refl}
+use Prim.Native.Nat.{ℕ, zero, suc, _≤_, _<_}
+use native.Mathlib.Omega.{arith}
+use lib.Dec.{T}
+use Rattle.model.specs.declared.Model.{Model}
+use Rattle.model.specs.Fits.{Fits}
+use Rattle.model.specs.Results.{refused, accepted, need, andThen, unless, refuse, firstOf}
+use Rattle.model.specs.Rules.{applies}
+use Rattle.model.specs.Schedules.{stepsOf}
+use Rattle.model.specs.Valid.{Valid, faultOf}
+use Rattle.model.specs.Walk.{Step, Config, Walked, turnFits, after, fire, stepFrom, walk, ownerOf, threadOf, stackOf, startOf}
+use Rattle.model.proofs.Checks.{both-pass}
+use Rattle.model.proofs.Inside.{applies-iff, fits-of}
+use Rattle.model.proofs.Ranges.{valid-fits}
+use Rattle.replay.specs.declared.Replayed.{Replayed}
+use Rattle.replay.specs.declared.Replayed.the-variants.{Accepted, Refused}
+use Rattle.replay.specs.Replay.{sizeFits, sizeRefusal, replayedBy, replayOf}
+
+-- A walk is refused by 9 or 10, or ends in a state below g.
+abbrev WalkEnds : ℕ → Walked → Type 0
+WalkEnds g (refused n) = (1 ≤ n) × (n ≤ 10)
+WalkEnds g (accepted c) = c .shared < g
+
+module _ {m : Model} (f : Fits m) where
+  fired : (c : Config) (s : Step) (w : List ℕ) → WalkEnds (m .g) (fire m c s w)
+  unfolding fire
+  fired c s [] = (omega arith, omega arith)
+  fired c s (top ∷ w) = go (applies (threadOf (ownerOf (s .turn)) m) (s .rule) (c .shared) top) (λ t. applies-iff _ _ _ _ .0 t .listed)
+    where
+      go : (b : Bool) → (T b → s .rule < threadOf (ownerOf (s .turn)) m .count) → WalkEnds (m .g) (need 10 b (accepted (after m c s w)))
+      go true h = fits-of f (ownerOf (s .turn)) .rules (s .rule) (h tt) .next
+      go false h = (omega arith, omega arith)
+
+  stepped : (c : Config) (s : Step) → WalkEnds (m .g) (stepFrom m c s)
+  unfolding stepFrom
+  stepped c s = go (turnFits m c s)
+    where
+      go : (b : Bool) → WalkEnds (m .g) (need 9 b (fire m c s (stackOf (ownerOf (s .turn)) (c .stacks))))
+      go true = fired c s _
+      go false = (omega arith, omega arith)
+
+  onward : (x : Walked) (next : Config → Walked) → WalkEnds (m .g) x → ((d : Config) → d .shared < m .g → WalkEnds (m .g) (next d))
+      → WalkEnds (m .g) (andThen x next)
+  onward (refused n) next e later = e
+  onward (accepted d) next e later = later d e
+
+  walks : (ss : List Step) (c : Config) → c .shared < m .g → WalkEnds (m .g) (walk m c ss)
+  unfolding walk
+  walks [] c h = h
+  walks (s ∷ ss) c h = onward (stepFrom m c s) (λ d. walk m d ss) (stepped c s) (λ d k. walks ss d k)
+
+-- What replay answers of a valid model: a refusal from 1 to 10, or a state below g.
+abbrev pub Ends : ℕ → Replayed → Type 0
+Ends g (Refused n) = (1 ≤ n) × (n ≤ 10)
+Ends g (Accepted q reached) = q .0 < g
+
+pub replay-ends : (m : Model) (bytes : List ℕ) → Valid m → Ends (m .g) (replayOf m bytes)
+unfolding replayOf firstOf
+replay-ends m bytes v =
+    let f = valid-fits m .0 v in
+    rw v (go (sizeFits bytes) (walk m (startOf m) (stepsOf bytes)) (walks f (stepsOf bytes) (startOf m) (f .start)))
+  where
+    go : (b : Bool) (w : Walked) → WalkEnds (m .g) w → Ends (m .g) (replayedBy m (unless (firstOf (refuse 8 b ∷ [])) w))
+    go false w e = (omega arith, omega arith)
+    go true (refused n) e = e
+    go true (accepted c) e = e
+
+-- Whatever the model, a refusal has a number.
+pub refused-by : (m : Model) (bytes : List ℕ) {n : ℕ} → replayOf m bytes ≡ Refused n → n ≡ 0 → ⊥
+unfolding replayOf
+refused-by m bytes {n} e z = go (sizeRefusal m bytes) refl
+  where
+    go : (k : ℕ) → sizeRefusal m bytes ≡ k → ⊥
+    go zero d =
+        let valid = both-pass (faultOf m) 7 (sizeFits bytes) .0 d .0 in
+        let low = rw e at (replay-ends m bytes valid) in
+        omega (arith, low .0)
+    go (suc k) d = let same : suc k ≡ n = cc in omega arith

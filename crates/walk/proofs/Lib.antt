@@ -1,0 +1,4 @@
+pub mod Moves
+pub mod Schedules
+pub mod Stacks
+pub mod Stepping
