@@ -30,7 +30,7 @@ use Rattle.page.specs.declared.Paged.{Paged}
 use Rattle.page.specs.declared.Paged.the-variants as paging
 use Rattle.page.specs.Answer.{replayRefusal, pageRefusal, pagedBy, pagedOf}
 use Rattle.page.specs.Page.{pageOf}
-use Rattle.page.proofs.Pages.{pageable}
+use Rattle.page.proofs.Pages.{pageable, page-length}
 use Rattle.ffi.specs.Replies.{ReplyFits, writeReply, linesReply, judgeReply, replayReply, pageReply}
 
 -- A valid model is refused by 7 alone, where a store is too small.
@@ -92,7 +92,7 @@ page-range m l size v = go (replayOf m l) refl (replay-ends m l v) (leb (length 
   where
     go : (r : Replayed) → replayOf m l ≡ r → Ends (m .g) r → (b : Bool)
         → ReplyFits (pageReply (pagedBy (firstOf (replayRefusal r ∷ refuse 7 b ∷ [])) (pageOf m (stepsOf l))))
-    go (replayed.Accepted q reached) e h true = let p = pageable m l e in omega (arith, p .size, p .most)
+    go (replayed.Accepted q reached) e h true = omega (arith, page-length m l e, pageable m l e .most)
     go (replayed.Accepted q reached) e h false = (omega arith, omega arith)
     go (replayed.Refused zero) e h b = absurd (omega (arith, h .0))
     go (replayed.Refused (suc n)) e h b = (omega arith, omega (arith, h .1))

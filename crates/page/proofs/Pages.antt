@@ -10,17 +10,16 @@ use Rattle.model.specs.declared.Model.{Model}
 use Rattle.model.specs.declared.Shared.{Shared}
 use Rattle.model.specs.Fits.{Fits}
 use Rattle.model.specs.Results.{accepted}
-use Rattle.model.specs.Runs.{TurnsBelow}
-use Rattle.model.specs.Schedules.{stepsOf, mostBytes}
+use Rattle.model.specs.Schedules.{stepsOf}
 use Rattle.model.specs.Walk.{Config, Step, startOf, stepFrom, walk}
 use Rattle.model.proofs.Ranges.{valid-fits}
 use Rattle.model.proofs.Results.{through}
 use Rattle.model.proofs.Stores.{length-bytes, steps-bytes, length-steps}
 use Rattle.replay.specs.declared.Replayed.the-variants.{Accepted}
-use Rattle.replay.specs.Replay.{replayOf}
+use Rattle.replay.specs.Replay.{replayOf, Legally}
 use Rattle.replay.proofs.Accepts.{accepts}
 use Rattle.page.specs.Page.{pageLines, pageOf, turnsIn}
-use Rattle.page.specs.Parts.{Rises}
+use Rattle.page.specs.Parts.{Pageable}
 use Rattle.page.proofs.Printing.{shows}
 use Rattle.page.proofs.Turns.{walk-rises, foot-fits}
 use Rattle.page.proofs.Widths.{length-line, length-foot}
@@ -36,23 +35,32 @@ length-lines {m} f (s ∷ ss) c n h e =
     let rest = length-lines f ss (t .0) (suc n) (omega arith) (t .2) in
     rw (t .1) (simp length-append (omega arith))
 
--- What holds of a schedule that replay accepts.
-pub record Pageable (m : Model) (l : List ℕ) : Type 0 where
-  pub fits : Fits m
-  pub most : length l ≤ mostBytes
-  pub turns : Rises 0 (stepsOf l) × TurnsBelow (2 * m .k) (stepsOf l)
-  pub size : length (pageOf m (stepsOf l)) ≡ 73 * (length l / 2 + 1)
+module _ (m : Model) (l : List ℕ) {q : Shared} {reached : Bool} (e : replayOf m l ≡ Accepted q reached) where
+  legal : Legally m l (q .0) reached
+  legal = accepts m l q reached .0 e
 
-pub pageable : (m : Model) (l : List ℕ) {q : Shared} {reached : Bool} → replayOf m l ≡ Accepted q reached → Pageable m l
-unfolding pageOf
-pageable m l {q} {reached} e =
-    let legal = accepts m l q reached .0 e in
-    let f = valid-fits m .0 (legal .valid) in
-    let same : stepsOf l ≡ legal .steps = ap stepsOf (legal .written) ∙ steps-bytes (legal .steps) in
-    let walked = rw (← same) at (legal .leads .walked) in
-    let turns = walk-rises m (stepsOf l) (startOf m) walked in
-    let most : length l ≤ mostBytes = omega (arith, ap length (legal .written), length-bytes (legal .steps), legal .most) in
-    let lines = length-lines f (stepsOf l) (startOf m) 1 (omega (arith, length-steps l)) walked in
-    let foot = length-foot (length (stepsOf l)) (turnsIn (stepsOf l))
-    (rw length-steps (foot-fits (m .k) l (f .k .1) most (turns .0) (turns .1))) in
-    record { fits = f; most = most; turns = turns; size = simp length-append (omega (arith, length-steps l)) }
+  -- The walk of the schedule's bytes makes every step.
+  walked : walk m (startOf m) (stepsOf l) ≡ accepted (legal .leads .last)
+  walked =
+      let same : stepsOf l ≡ legal .steps = ap stepsOf (legal .written) ∙ steps-bytes (legal .steps) in
+      rw same (legal .leads .walked)
+
+  -- A schedule that replay accepts can be put on a page ..
+  pub pageable : Pageable m l
+  pageable =
+      let turns = walk-rises m (stepsOf l) (startOf m) walked in
+      record {
+        fits = valid-fits m .0 (legal .valid);
+        most = omega (arith, ap length (legal .written), length-bytes (legal .steps), legal .most);
+        rises = turns .0;
+        below = turns .1;
+      }
+
+  -- .. which has so many bytes.
+  pub page-length : length (pageOf m (stepsOf l)) ≡ 73 * (length l / 2 + 1)
+  unfolding pageOf
+  page-length =
+      let size = length-steps l in
+      let lines = length-lines (pageable .fits) (stepsOf l) (startOf m) 1 (omega (arith, pageable .most)) walked in
+      let foot = length-foot (length (stepsOf l)) (turnsIn (stepsOf l)) (rw length-steps (foot-fits pageable)) in
+      simp length-append (omega arith)

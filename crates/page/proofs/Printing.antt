@@ -9,7 +9,7 @@ use lib.Seq.{drop-cons, length-take-le, length-sets}
 use Rattle.model.specs.declared.Model.{Model}
 use Rattle.model.specs.Fits.{Fits}
 use Rattle.model.specs.Results.{refused, accepted, andThen}
-use Rattle.model.specs.Schedules.{stepsOf, stepAt, stepsFrom, mostBytes}
+use Rattle.model.specs.Schedules.{stepsOf, stepAt, stepsFrom}
 use Rattle.model.specs.Walk.{ownerOf, threadOf, Config, Step, Walked, stepFrom, walk}
 use Rattle.model.proofs.Inside.{applies-iff, fits-of}
 use Rattle.model.proofs.Steps.{stepped}
@@ -19,7 +19,7 @@ use Rattle.walk.specs.Stack.{configOf, Counted, Room}
 use Rattle.writer.specs.Put.{Put}
 use Rattle.writer.proofs.Puts.{nothing, _then_}
 use Rattle.page.specs.Page.{pageLine, pageLines}
-use Rattle.page.specs.Parts.{StepFits}
+use Rattle.page.specs.Parts.{StepFits, Pageable}
 
 -- The part of a schedule that is walked for the line of step i.
 abbrev partAt : List ℕ → ℕ → List ℕ
@@ -60,10 +60,9 @@ shows m c s n h f e =
       states = rw (p .come) (omega (arith, t .rules (s .rule) rule .next, f .g));
     }
 
--- What the lines of a schedule l are put by: the model is in range, and there is room for the stacks and for the lines.
+-- What the lines of a schedule l are put by: it can be put on a page, and there is room for the stacks and for the lines.
 pub record Ready (m : Model) (l : List ℕ) (w : Walk) (a b s : List ℕ) : Type 0 where
-  pub fits : Fits m
-  pub most : length l ≤ mostBytes
+  pub pageable : Pageable m l
   pub stacks : Room (length l / 2) w a b
   pub lines : 73 * (length l / 2) ≤ length s
 
@@ -109,7 +108,7 @@ module _ {m : Model} {l : List ℕ} {w : Walk} {a b s : List ℕ} {v : Walk} {c 
     step-room =
         let stacks = p .ready .stacks in
         rw (one-step l i h) (
-          record { a = p .ready .fits .a .count; b = p .ready .fits .b .count },
+          record { a = p .ready .pageable .fits .a .count; b = p .ready .pageable .fits .b .count },
           record { first = omega (arith, stacks .first, p .one, p .first); second = omega (arith, stacks .second, p .two, p .second) },
         )
 
@@ -122,7 +121,7 @@ module _ {m : Model} {l : List ℕ} {w : Walk} {a b s : List ℕ} {v : Walk} {c 
     line-room u c′ d′ e k x y =
         let ready = p .ready in
         let grown = rw (one-step l i h) at k in (
-          shows m (configOf v c d) (stepAt l i) (i + 1) (omega (arith, ready .most)) (ready .fits) (sym (e ∙ step)),
+          shows m (configOf v c d) (stepAt l i) (i + 1) (omega (arith, ready .pageable .most)) (ready .pageable .fits) (sym (e ∙ step)),
           (
             (omega (arith, ready .stacks .first, p .one, p .first), omega (arith, ready .stacks .second, p .two, p .second)),
             omega (arith, ready .lines, p .size, p .ends),

@@ -1,6 +1,6 @@
 -- The topmost symbols of a stack: those that are shown, one after another, are the front of the stack, and blanks fill its columns.
 use mathlib.Core.List.{List, [], _∷_, _++_, map}
-use mathlib.Core.Path.{_≡_, refl, ap}
+use mathlib.Core.Path.{_≡_, refl}
 use Prim.Native.Nat.{ℕ, zero, suc, _+_, _-_, _≤_, _<_, min}
 use native.Mathlib.Nat.{min-zero, min-comm, suc-min-suc}
 use native.Mathlib.Omega.{arith}
@@ -8,31 +8,17 @@ use lib.ListN.{length, take, getD, set, length-map, length-take}
 use lib.Seq.{length-take-le}
 use Rattle.text.specs.Text.{blanks, leftAligned}
 use Rattle.walk.specs.Stack.{topFirst}
+use Rattle.walk.proofs.Stacks.{length-top, from-top}
 use Rattle.writer.specs.Put.{Put}
 use Rattle.writer.proofs.Puts.{_then_}
 use Rattle.page.specs.Page.{hexDigit, stackColumns}
-
--- A stack in a buffer has as many symbols as its height.
-pub length-top : (n : ℕ) (l : List ℕ) → length (topFirst n l) ≡ n
-unfolding topFirst
-length-top zero l = refl
-length-top (suc n) l = ap suc (length-top n l)
 
 -- So many symbols have as many digits.
 pub length-digits : (n d : ℕ) (l : List ℕ) → n ≤ d → length (map hexDigit (take n (topFirst d l))) ≡ n
 length-digits n d l h = simp length-map (length-take-le n (topFirst d l) (rw (length-top d l) h))
 
--- The symbol i places below the top.
-pub from-top : (n : ℕ) (l : List ℕ) (i : ℕ) → i < n → getD (topFirst n l) i 0 ≡ getD l (n - 1 - i) 0
-unfolding topFirst
-from-top zero l i h = absurd (omega arith)
-from-top (suc n) l zero h = let e : n ≡ suc n - 1 - 0 = omega arith in rw (← e)
-from-top (suc n) l (suc i) h =
-    let e : n - 1 - i ≡ suc n - 1 - suc i = omega arith in
-    rw (from-top n l i (omega arith), e)
-
 -- One symbol more.
-pub one-more : (f : ℕ → ℕ) (w : List ℕ) (i : ℕ) → i < length w
+one-more : (f : ℕ → ℕ) (w : List ℕ) (i : ℕ) → i < length w
     → map f (take (i + 1) w) ≡ map f (take i w) ++ (f (getD w i 0) ∷ [])
 one-more f [] i h = absurd (omega arith)
 one-more f (x ∷ w) zero h = refl

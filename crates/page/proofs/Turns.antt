@@ -12,13 +12,13 @@ use borrow.Author.Tests.{eq-eqb, ne-eqb}
 use Rattle.model.specs.declared.Model.{Model}
 use Rattle.model.specs.Results.{accepted}
 use Rattle.model.specs.Runs.{TurnsBelow}
-use Rattle.model.specs.Schedules.{stepsOf, stepAt, stepsFrom, mostBytes}
+use Rattle.model.specs.Schedules.{stepsOf, stepAt, stepsFrom}
 use Rattle.model.specs.Walk.{Config, Step, stepFrom, walk}
 use Rattle.model.proofs.Results.{through}
 use Rattle.model.proofs.Steps.{stepped}
 use Rattle.model.proofs.Stores.{first-step, short}
 use Rattle.page.specs.Page.{stepIn, turnsIn}
-use Rattle.page.specs.Parts.{Rises, FootFits}
+use Rattle.page.specs.Parts.{Rises, FootFits, Pageable}
 
 -- The turns of a walk never fall, and are below 2K.
 pub walk-rises : (m : Model) (ss : List Step) (c : Config) {d : Config} → walk m c ss ≡ accepted d
@@ -67,14 +67,13 @@ unfolding turnsIn stepIn
 some-turn s [] = omega arith
 some-turn s (u ∷ ss) = omega (arith, some-turn u ss)
 
--- What the foot of a schedule that is walked shows fits its columns.
-pub foot-fits : (k : ℕ) (l : List ℕ) → k ≤ 3 → length l ≤ mostBytes → Rises 0 (stepsOf l) → TurnsBelow (2 * k) (stepsOf l)
-    → FootFits (length l / 2) (turnsIn (stepsOf l))
-foot-fits k l few h r b =
+-- What the foot shows fits its columns.
+pub foot-fits : {m : Model} {l : List ℕ} → Pageable m l → FootFits (length l / 2) (turnsIn (stepsOf l))
+foot-fits {m} {l} p =
     record {
-      most = omega arith;
-      few = omega (arith, few-turns (2 * k) 0 (stepsOf l) (omega arith) r b);
-      some = λ p. rw (first-step l 0 p) (some-turn (stepAt l 0) (stepsFrom l 1));
+      most = omega (arith, p .most);
+      few = omega (arith, few-turns (2 * m .k) 0 (stepsOf l) (omega arith) (p .rises) (p .below), p .fits .k);
+      some = λ h. rw (first-step l 0 h) (some-turn (stepAt l 0) (stepsFrom l 1));
     }
 
 -- Turns that begin at one begin at an earlier one.

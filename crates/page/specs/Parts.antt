@@ -1,7 +1,11 @@
--- What the helpers ask: numbers that fit their columns, and turns that never fall.
+-- What the helpers ask: numbers that fit their columns, and schedules whose turns never fall.
 use mathlib.Core.List.{List, [], _∷_}
-use Prim.Native.Nat.{ℕ, _≤_, _<_}
-use Rattle.model.specs.Schedules.{mostSteps}
+use Prim.Native.Nat.{ℕ, _*_, _≤_, _<_}
+use lib.ListN.{length}
+use Rattle.model.specs.declared.Model.{Model}
+use Rattle.model.specs.Fits.{Fits}
+use Rattle.model.specs.Runs.{TurnsBelow}
+use Rattle.model.specs.Schedules.{stepsOf, mostSteps, mostBytes}
 use Rattle.model.specs.Walk.{Step}
 
 -- What a step's line shows fits its columns.
@@ -21,3 +25,11 @@ pub record FootFits (steps turns : ℕ) : Type 0 where
   pub most : steps ≤ mostSteps
   pub few : turns ≤ 6
   pub some : 0 < steps → 0 < turns
+
+-- A schedule can be put on a page: its model is in range, it has no more than 4,095 steps, and their turns are below 2K and never
+-- fall. Replay accepts no other (a law).
+pub record Pageable (m : Model) (l : List ℕ) : Type 0 where
+  pub fits : Fits m
+  pub most : length l ≤ mostBytes
+  pub rises : Rises 0 (stepsOf l)
+  pub below : TurnsBelow (2 * m .k) (stepsOf l)

@@ -2,12 +2,10 @@
 ghost use mathlib.Core.Path.{_≡_};
 ghost use Prim.Native.Nat.{_+_, _*_, _/_, _≤_, _<_};
 ghost use lib.ListN.{length};
-ghost use Rattle.model.specs.Fits.{Fits};
-ghost use Rattle.model.specs.Runs.{TurnsBelow};
-ghost use Rattle.model.specs.Schedules.{stepsOf, mostBytes};
+ghost use Rattle.model.specs.Schedules.{stepsOf};
 ghost use Rattle.page.specs.Answer.{pagedOf, pageStore};
 ghost use Rattle.page.specs.Page.{pageLines, pageOf};
-ghost use Rattle.page.specs.Parts.{Rises};
+ghost use Rattle.page.specs.Parts.{Pageable};
 ghost use Rattle.walk.specs.Stack.{configOf, Room};
 ghost use Rattle.writer.specs.Put.{Put};
 use model::Model;
@@ -47,9 +45,7 @@ pub fn page(m: Model, schedule: &[u8], store: &mut [u8]) -> Paged
 
 // Puts a page into a store that has room for it.
 fn put_page(store: &mut [u8], m: Model, schedule: &[u8]) -> usize
-    requires { ⌜ Fits m ⌝ ∗ ⌜ length (now schedule) ≤ mostBytes ⌝
-        ∗ ⌜ Rises 0 (stepsOf (now schedule)) × TurnsBelow (2 * m .k) (stepsOf (now schedule)) ⌝
-        ∗ ⌜ 73 * (length (now schedule) / 2 + 1) ≤ length (now store) ⌝ }
+    requires { ⌜ Pageable m (now schedule) ⌝ ∗ ⌜ 73 * (length (now schedule) / 2 + 1) ≤ length (now store) ⌝ }
     ensures { λ r. ⌜ Put (now (store .entry)) (now (store .exit)) 0 r (pageOf m (stepsOf (now (schedule .entry)))) ⌝ }
 {
     let mut a = [0u8; STACK];
@@ -69,7 +65,7 @@ fn put_steps(
     a: &mut [u8],
     b: &mut [u8],
 ) -> usize
-    requires { ⌜ Fits m ⌝ ∗ ⌜ length (now schedule) ≤ mostBytes ⌝ ∗ ⌜ Room (length (now schedule) / 2) start (now a) (now b) ⌝
+    requires { ⌜ Pageable m (now schedule) ⌝ ∗ ⌜ Room (length (now schedule) / 2) start (now a) (now b) ⌝
         ∗ ⌜ 73 * (length (now schedule) / 2) ≤ length (now store) ⌝ }
     ensures lines { λ r. ⌜ Put (now (store .entry)) (now (store .exit)) 0 r
         (pageLines m 1 (configOf start (now (a .entry)) (now (b .entry))) (stepsOf (now (schedule .entry)))) ⌝ }

@@ -1,7 +1,8 @@
--- Stacks in buffers: a write at or above the top changes no symbol of the stack, and one at its height is its new top.
+-- Stacks in buffers: a write at or above the top changes no symbol of the stack, one at its height is its new top, and the symbols of
+-- the list are those below the height, counted down.
 use mathlib.Core.List.{List, _∷_}
-use mathlib.Core.Path.{_≡_, refl}
-use Prim.Native.Nat.{ℕ, zero, suc, _+_, _<_, _≤_}
+use mathlib.Core.Path.{_≡_, refl, ap}
+use Prim.Native.Nat.{ℕ, zero, suc, _+_, _-_, _<_, _≤_}
 use native.Mathlib.Numerals.{add-one}
 use native.Mathlib.Omega.{arith}
 use lib.ListN.{length, getD, set, length-set}
@@ -30,3 +31,18 @@ two-on-top n l v w h =
 pub split-top : (n : ℕ) (l : List ℕ) (m : ℕ) → m + 1 ≡ n → topFirst n l ≡ getD l m 0 ∷ topFirst m l
 unfolding topFirst
 split-top n l m e = rw (← e, add-one)
+
+-- A stack has as many symbols as its height.
+pub length-top : (n : ℕ) (l : List ℕ) → length (topFirst n l) ≡ n
+unfolding topFirst
+length-top zero l = refl
+length-top (suc n) l = ap suc (length-top n l)
+
+-- The symbol i places below the top.
+pub from-top : (n : ℕ) (l : List ℕ) (i : ℕ) → i < n → getD (topFirst n l) i 0 ≡ getD l (n - 1 - i) 0
+unfolding topFirst
+from-top zero l i h = absurd (omega arith)
+from-top (suc n) l zero h = let e : n ≡ suc n - 1 - 0 = omega arith in rw (← e)
+from-top (suc n) l (suc i) h =
+    let e : n - 1 - i ≡ suc n - 1 - suc i = omega arith in
+    rw (from-top n l i (omega arith), e)

@@ -3,7 +3,7 @@ use mathlib.Core.Path.{sym, _∙_}
 use native.Mathlib.Omega.{arith}
 use borrow.Author.Needs.{needs}
 use Rattle.page.proofs.Answers.{refused, short, whole}
-use Rattle.page.proofs.Pages.{pageable}
+use Rattle.page.proofs.Pages.{pageable, page-length}
 use Rattle.page.proofs.page.Statement.{statement}
 use Rattle.page.proofs.page.Tie as tie
 
@@ -22,12 +22,11 @@ mul-size c = omega (arith, pageable _ _ (sym (c .before .before .replay .ensures
 returns : tie.Need-returns
 returns c =
     let e = sym (c .before .before .before .replay .ensures) ∙ c .before .enum-told .given .1 in
-    short _ _ _ e (pageable _ _ e .size) (c .if1 .taken)
+    short _ _ _ e (page-length _ _ e) (c .if1 .taken)
 
 put-page-requires : tie.Need-put-page-requires
 put-page-requires c κs =
-    let p = pageable _ _ (sym (c .before .before .before .before .replay .ensures) ∙ c .before .before .enum-told .given .1) in
-    (p .fits, (p .most, (p .turns, search needs)))
+    (pageable _ _ (sym (c .before .before .before .before .replay .ensures) ∙ c .before .before .enum-told .given .1), search needs)
 
 enum-known-n : tie.Need-enum-known-n
 enum-known-n c = search needs
@@ -38,7 +37,7 @@ same-length c = search needs
 returns-2 : tie.Need-returns-2
 returns-2 c =
     let e = sym (c .before .before .before .before .before .before .before .replay .ensures) ∙ c .before .before .before .before .before .enum-told .given .1 in
-    whole _ _ _ e (pageable _ _ e .size) (c .before .before .before .before .if1 .left) (c .before .before .put-page .ensures)
+    whole _ _ _ e (page-length _ _ e) (c .before .before .before .before .if1 .left) (c .before .before .put-page .ensures)
 
 returns-3 : tie.Need-returns-3
 returns-3 c = refused _ _ _ (sym (c .before .before .before .replay .ensures) ∙ c .before .n .given .1)

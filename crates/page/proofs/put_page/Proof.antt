@@ -27,17 +27,15 @@ put-steps-requires : tie.Need-put-steps-requires
 put-steps-requires c κs =
     let pre = c .before .before .before .before .before .before .before .before .before .before .pre in
     let start = c .before .before .before .before .before .start .ensures in
-    (pre .0, (pre .1 .0, (record { first = omega (arith, start .first); second = omega (arith, start .second) }, omega arith)))
+    (pre .0, (record { first = omega (arith, start .first); second = omega (arith, start .second) }, omega arith))
 
 turns-requires : tie.Need-turns-requires
-turns-requires c κs = c .before .before .before .before .before .before .before .before .before .before .before .before .before .before .before .pre .1 .1 .0 .0
+turns-requires c κs =
+    c .before .before .before .before .before .before .before .before .before .before .before .before .before .before .before .pre .0 .rises
 
 put-foot-requires : tie.Need-put-foot-requires
 put-foot-requires c κs =
-    let start = c .before .before .before .before .before .before .before .before .before .before .before .before .before .before .before .before .before in
-    let turns = start .pre .1 .1 .0 in
-    let d = foot-fits (start .args .m .k) (start .args .schedule .now) (start .pre .0 .k .1) (start .pre .1 .0) (turns .0) (turns .1) in
-    (rw (c .before .turns .ensures) d, omega arith)
+    (rw (c .before .turns .ensures) (foot-fits (c .before .before .before .before .before .before .before .before .before .before .before .before .before .before .before .before .before .pre .0)), omega arith)
 
 same-length : tie.Need-same-length
 same-length c = search needs

@@ -17,7 +17,7 @@ abbrev μ-loop : tie.MeasureT-loop
 loop-holds : tie.Need-loop-holds Inv-loop μ-loop
 loop-holds c =
     let pre = c .before .before .before .before .pre in
-    printing-start (record { fits = pre .0; most = pre .1 .0; stacks = pre .1 .1 .0; lines = pre .1 .1 .1 })
+    printing-start (record { pageable = pre .0; stacks = pre .1 .0; lines = pre .1 .1 })
 
 mul-from : tie.Need-mul-from Inv-loop μ-loop
 mul-from c = search needs

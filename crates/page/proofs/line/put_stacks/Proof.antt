@@ -1,8 +1,8 @@
 -- `put_stacks` meets its contract: its parts are put one after another, and a stack has as many symbols as its depth.
 use borrow.Author.Needs.{needs}
+use Rattle.walk.proofs.Stacks.{length-top}
 use Rattle.writer.proofs.Puts.{_then_}
 use Rattle.page.specs.Page.{stepStacks}
-use Rattle.page.proofs.Shown.{length-top}
 use Rattle.page.proofs.line.put_stacks.Statement.{statement}
 use Rattle.page.proofs.line.put_stacks.Tie as tie
 
