@@ -22,7 +22,7 @@ mul-size c = omega (arith, pageable _ _ (sym (c .before .before .replay .ensures
 returns : tie.Need-returns
 returns c =
     let e = sym (c .before .before .before .replay .ensures) ∙ c .before .enum-told .given .1 in
-    short _ _ _ e (page-length _ _ e) (c .if1 .taken)
+    short _ _ _ e (page-length _ _ e) (omega arith)
 
 put-page-requires : tie.Need-put-page-requires
 put-page-requires c κs =
@@ -37,7 +37,7 @@ same-length c = search needs
 returns-2 : tie.Need-returns-2
 returns-2 c =
     let e = sym (c .before .before .before .before .before .before .before .replay .ensures) ∙ c .before .before .before .before .before .enum-told .given .1 in
-    whole _ _ _ e (page-length _ _ e) (c .before .before .before .before .if1 .left) (c .before .before .put-page .ensures)
+    whole _ _ _ e (page-length _ _ e) (omega arith) (c .before .before .put-page .ensures)
 
 returns-3 : tie.Need-returns-3
 returns-3 c = refused _ _ _ (sym (c .before .before .before .replay .ensures) ∙ c .before .n .given .1)
