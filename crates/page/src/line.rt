@@ -57,7 +57,7 @@ fn put_stacks(store: &mut [u8], at: usize, w: Walk, a: &[u8], b: &[u8]) -> usize
     ensures place { λ r. ⌜ r ≡ at + 59 ⌝ }
 {
     let mut next = put_stack(store, at, w.a, a);
-    next = text::put_blanks(store, next, 1);
+    next = writer::put_byte(store, next, b' ');
     next = put_stack(store, next, w.b, b);
     let end = [mark_of(w.a, w.b), b'\n'];
     text::put(store, next, &end)
@@ -70,7 +70,7 @@ pub fn put_column(store: &mut [u8], at: usize, width: usize, n: u64) -> usize
     ensures place { λ r. ⌜ r ≡ at + width + 1 ⌝ }
 {
     let next = text::put_right(store, at, width, n);
-    text::put_blanks(store, next, 1)
+    writer::put_byte(store, next, b' ')
 }
 
 // Puts the columns of a stack.

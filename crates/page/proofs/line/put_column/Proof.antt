@@ -11,8 +11,8 @@ use Rattle.page.proofs.line.put_column.Tie as tie
 put-right-requires : tie.Need-put-right-requires
 put-right-requires c κs = search needs
 
-put-blanks-requires : tie.Need-put-blanks-requires
-put-blanks-requires c κs =
+put-byte-requires : tie.Need-put-byte-requires
+put-byte-requires c κs =
     let start = c .before .before .before .before .before .before in
     omega (arith, c .before .before .before .put-right .ensures .ends, length-right (start .args .width) (decimal (start .args .n)) (start .pre .0))
 
@@ -24,9 +24,9 @@ unfolding column
 returns c =
     let start = c .before .before .before .before .before .before .before .before .before in
     let number = c .before .before .before .before .before .before .put-right .ensures in (
-      number then c .before .before .put-blanks .ensures .0,
+      number then c .before .before .put-byte .ensures,
       omega (arith, number .ends, length-right (start .args .width) (decimal (start .args .n)) (start .pre .0)),
     )
 
 pub put-column-spec : {M : Type 1} → statement M
-put-column-spec = tie.close (tie.spec put-right-requires put-blanks-requires same-length returns)
+put-column-spec = tie.close (tie.spec put-right-requires put-byte-requires same-length returns)

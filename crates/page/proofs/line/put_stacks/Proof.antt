@@ -9,8 +9,8 @@ use Rattle.page.proofs.line.put_stacks.Tie as tie
 put-stack-requires : tie.Need-put-stack-requires
 put-stack-requires c κs = search needs
 
-put-blanks-requires : tie.Need-put-blanks-requires
-put-blanks-requires c κs = search needs
+put-byte-requires : tie.Need-put-byte-requires
+put-byte-requires c κs = search needs
 
 put-stack-requires-2 : tie.Need-put-stack-requires-2
 put-stack-requires-2 c κs = search needs
@@ -32,7 +32,7 @@ unfolding stepStacks
 returns c =
     let first = c .before .before .before .before .before .before .before .before .before .before .before .before .before .before .before .before .put-stack .ensures .0 in (
       rw (length-top, length-top, ← c .before .before .before .before .before .mark-of .ensures)
-          (first then c .before .before .before .before .before .before .before .before .before .before .before .before .put-blanks .ensures .0 then c .before .before .before .before .before .before .before .before .put-stack2 .ensures .0 then c .before .before .put .ensures),
+          (first then c .before .before .before .before .before .before .before .before .before .before .before .before .put-byte .ensures then c .before .before .before .before .before .before .before .before .put-stack2 .ensures .0 then c .before .before .put .ensures),
       search needs,
     )
 
@@ -41,7 +41,7 @@ put-stacks-spec =
     tie.close
     (tie.spec
     put-stack-requires
-    put-blanks-requires
+    put-byte-requires
     put-stack-requires-2
     mark-of-requires
     slice-aggregate-put
