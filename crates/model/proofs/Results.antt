@@ -1,10 +1,11 @@
 -- Results read backwards: what was accepted has passed each check on its way, and each of its parts was accepted.
 use mathlib.Core.Bool.{Bool, true, false}
+use mathlib.Core.List.{List}
 use mathlib.Core.Path.{_≡_, refl}
 use Prim.Native.Nat.{ℕ, zero, suc}
 use native.Mathlib.Omega.{arith}
 use lib.Dec.{T}
-use Rattle.model.specs.Results.{Result, refused, accepted, andThen, need, unless}
+use Rattle.model.specs.Results.{Result, refused, accepted, andThen, need, unless, storeBy}
 
 -- What is refused is not accepted.
 pub apart : {A X : Type 0} {n : ℕ} {a : A} → refused n ≡ accepted a → X
@@ -38,3 +39,8 @@ due {n = n} r h = go n h
 pub undue : {A : Type 0} (n : ℕ) {r : Result A} {a : A} → unless n r ≡ accepted a → (n ≡ 0) × (r ≡ accepted a)
 undue zero e = (refl, e)
 undue (suc n) e = apart e
+
+-- A refusal that is due leaves the store as it was.
+pub kept : (n : ℕ) (bytes store : List ℕ) → (n ≡ 0 → ⊥) → store ≡ storeBy n bytes store
+kept zero bytes store h = absurd (h refl)
+kept (suc n) bytes store h = refl

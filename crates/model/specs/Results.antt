@@ -1,7 +1,8 @@
 -- Results: what a reader or a walk comes to, and the order of refusals, of which the first that is due is the answer.
 use mathlib.Core.Bool.{Bool, true, false}
-use mathlib.Core.List.{List, [], _∷_}
+use mathlib.Core.List.{List, [], _∷_, _++_}
 use Prim.Native.Nat.{ℕ, zero, suc}
+use lib.ListN.{length, drop}
 
 -- What a reader or a walk comes to: the number of its first fault, or a value.
 pub data Result (A : Type 0) : Type 0 where
@@ -33,3 +34,9 @@ unfoldable pub firstOf : List ℕ → ℕ
 firstOf [] = 0
 firstOf (zero ∷ ns) = firstOf ns
 firstOf (suc n ∷ ns) = suc n
+
+-- The store of a call that puts bytes at its front, by the refusal that is due: as it was, or with none the bytes and the rest of what it
+-- held.
+abbrev pub storeBy : ℕ → List ℕ → List ℕ → List ℕ
+storeBy zero bytes store = bytes ++ drop (length bytes) store
+storeBy (suc n) bytes store = store

@@ -11,7 +11,7 @@ use lib.Seq.{sets-eq}
 use borrow.Author.Tests.{le-leb, lt-leb}
 use Rattle.model.specs.declared.Model.{Model}
 use Rattle.model.specs.declared.Shared.{Shared}
-use Rattle.model.specs.Results.{refuse, firstOf}
+use Rattle.model.specs.Results.{refuse, firstOf, storeBy}
 use Rattle.model.specs.Schedules.{stepsOf}
 use Rattle.model.proofs.Checks.{stops}
 use Rattle.replay.specs.declared.Replayed.the-variants as replayed
@@ -20,7 +20,7 @@ use Rattle.replay.proofs.Ranges.{refused-by}
 use Rattle.writer.specs.Put.{Put}
 use Rattle.page.specs.declared.Paged.{Paged}
 use Rattle.page.specs.declared.Paged.the-variants.{Length, Refused}
-use Rattle.page.specs.Answer.{replayRefusal, pageRefusal, pagedBy, storeBy, pagedOf, pageStore}
+use Rattle.page.specs.Answer.{replayRefusal, pageRefusal, pagedBy, pagedOf, pageStore}
 use Rattle.page.specs.Page.{pageOf}
 
 module _ (m : Model) (l store : List ℕ) where

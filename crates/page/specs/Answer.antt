@@ -1,10 +1,10 @@
 -- What the call that makes a page answers, and what the store then holds.
-use mathlib.Core.List.{List, [], _∷_, _++_}
+use mathlib.Core.List.{List, [], _∷_}
 use Prim.Native.Nat.{ℕ, zero, suc}
 use lib.Dec.{leb}
-use lib.ListN.{length, drop}
+use lib.ListN.{length}
 use Rattle.model.specs.declared.Model.{Model}
-use Rattle.model.specs.Results.{refuse, firstOf}
+use Rattle.model.specs.Results.{refuse, firstOf, storeBy}
 use Rattle.model.specs.Schedules.{stepsOf}
 use Rattle.replay.specs.declared.Replayed.{Replayed}
 use Rattle.replay.specs.declared.Replayed.the-variants as replayed
@@ -27,11 +27,6 @@ pageRefusal m schedule size =
 abbrev pub pagedBy : ℕ → List ℕ → Paged
 pagedBy zero page = Length (length page)
 pagedBy (suc n) page = Refused (suc n)
-
--- The store, by the refusal that is due: as it was, or with none the page at its front and the rest as it was.
-abbrev pub storeBy : ℕ → List ℕ → List ℕ → List ℕ
-storeBy zero page store = page ++ drop (length page) store
-storeBy (suc n) page store = store
 
 -- The answer for the bytes of a schedule, by the length of the store.
 unfoldable pub pagedOf : Model → List ℕ → ℕ → Paged

@@ -1,6 +1,6 @@
 -- What a valid model gives the writer, and the three answers of the call, each with what the store then holds.
 use mathlib.Core.List.{List, [], _∷_, _++_}
-use mathlib.Core.Path.{_≡_}
+use mathlib.Core.Path.{_≡_, _∙_}
 use Prim.Native.Nat.{ℕ, _≤_, _<_}
 use native.Mathlib.Nat.{zero-add}
 use native.Mathlib.Omega.{arith}
@@ -11,16 +11,16 @@ use borrow.Author.Tests.{le-leb, lt-leb}
 use Rattle.model.specs.declared.Model.{Model}
 use Rattle.model.specs.declared.Thread.{Thread}
 use Rattle.model.specs.Fits.{ThreadFits}
-use Rattle.model.specs.Results.{accepted, refuse, firstOf}
+use Rattle.model.specs.Results.{accepted, refuse, firstOf, storeBy}
 use Rattle.model.specs.Valid.{Valid, faultOf, storeRefusal, Places}
 use Rattle.model.proofs.Checks.{stops}
 use Rattle.model.proofs.Ranges.{valid-fits}
-use Rattle.model.proofs.Results.{due}
+use Rattle.model.proofs.Results.{due, kept}
 use Rattle.record.specs.declared.Written.{Written}
 use Rattle.record.specs.declared.Written.the-variants.{Length, Refused}
 use Rattle.writer.specs.Put.{Put, Small}
 use Rattle.writer.specs.Writer.{recordOf}
-use Rattle.record.specs.Written.{writtenOf, storeOf, holding, Survives}
+use Rattle.record.specs.Written.{writtenOf, storeOf, Survives}
 use Rattle.record.proofs.Records.{written-read}
 
 -- A thread in range, of at most four states, is small.
@@ -43,10 +43,10 @@ module _ (m : Model) (store : List ℕ) where
   abbrev Told : Written → List ℕ → Type 0
   Told r new = (r ≡ writtenOf m (length store)) × ((new ≡ storeOf m store) × Survives m r new)
 
-  -- The answer fixes what the store holds.
-  fixed : (r : Written) → r ≡ writtenOf m (length store) → holding r (recordOf m) store ≡ storeOf m store
+  -- The refusal that is due fixes what the store holds.
+  fixed : (n : ℕ) → n ≡ storeRefusal m (leb (length (recordOf m)) (length store)) → storeBy n (recordOf m) store ≡ storeOf m store
   unfolding storeOf
-  fixed r e = rw (← e)
+  fixed n e = rw (← e)
 
   -- A model with a fault is refused by it ..
   pub faulty : {n : ℕ} → n ≡ faultOf m → (n ≡ 0 → ⊥) → Told (Refused n) store
@@ -54,14 +54,14 @@ module _ (m : Model) (store : List ℕ) where
   faulty {n} e h =
       let due-first = stops (refuse 7 (leb (length (recordOf m)) (length store)) ∷ []) e h in
       let r : Refused n ≡ writtenOf m (length store) = rw (← due-first, ← due (accepted (length (recordOf m))) h) in
-      (r, (fixed (Refused n) r, tt))
+      (r, (kept n (recordOf m) store h ∙ fixed n due-first, tt))
 
   -- .. and of a valid one a record that does not fit ..
   pub short : Valid m → {n : ℕ} → n ≡ length (recordOf m) → length store < n → Told (Refused 7) store
   unfolding writtenOf storeRefusal firstOf
   short v e h =
       let r : Refused 7 ≡ writtenOf m (length store) = rw (v, ← e, lt-leb _ _ h) in
-      (r, (fixed (Refused 7) r, tt))
+      (r, (fixed 7 (rw (v, ← e, lt-leb _ _ h)), tt))
 
   -- .. while one that fits is written, and is read back.
   pub whole : Valid m → Places m → {n : ℕ} → n ≡ length (recordOf m) → n ≤ length store
@@ -70,4 +70,4 @@ module _ (m : Model) (store : List ℕ) where
   whole v p {n} e h =
       let r : Length n ≡ writtenOf m (length store) = rw (v, ← e, le-leb _ _ h) in
       let held : take n (recordOf m ++ drop n store) ≡ recordOf m = rw e (take-append-seam (recordOf m) _) in
-      (r, (fixed (Length n) r, rw held (written-read m v p)))
+      (r, (rw e (fixed 0 (rw (v, ← e, le-leb _ _ h))), rw held (written-read m v p)))

@@ -1,11 +1,11 @@
 -- What the call that writes a record answers, what the store then holds, and that it is read back.
-use mathlib.Core.List.{List, [], _++_}
+use mathlib.Core.List.{List, []}
 use mathlib.Core.Path.{_≡_}
 use Prim.Native.Nat.{ℕ}
 use lib.Dec.{leb}
-use lib.ListN.{length, take, drop}
+use lib.ListN.{length, take}
 use Rattle.model.specs.declared.Model.{Model}
-use Rattle.model.specs.Results.{Result, refused, accepted, unless}
+use Rattle.model.specs.Results.{Result, refused, accepted, unless, storeBy}
 use Rattle.model.specs.Valid.{storeRefusal, Same}
 use Rattle.record.specs.declared.Written.{Written}
 use Rattle.record.specs.declared.Written.the-variants.{Length, Refused}
@@ -22,14 +22,9 @@ unfoldable pub writtenOf : Model → ℕ → Written
 writtenOf m size =
     writtenBy (unless (storeRefusal m (leb (length (recordOf m)) size)) (accepted (length (recordOf m))))
 
--- A store by the answer: as it was where the call refused, else with the bytes at its front.
-abbrev pub holding : Written → List ℕ → List ℕ → List ℕ
-holding (Refused n) bytes store = store
-holding (Length n) bytes store = bytes ++ drop n store
-
--- What the store holds after the call.
+-- What the store holds after the call: what it held where a refusal is due, else the record at its front.
 unfoldable pub storeOf : Model → List ℕ → List ℕ
-storeOf m store = holding (writtenOf m (length store)) (recordOf m) store
+storeOf m store = storeBy (storeRefusal m (leb (length (recordOf m)) (length store))) (recordOf m) store
 
 -- Bytes hold a model: they are read whole, as a model that is the same.
 pub record ReadsBack (m : Model) (bytes : List ℕ) : Type 0 where

@@ -52,7 +52,7 @@ GrowsBy n w (Refused k) = Unit {0}
 
 -- A step grows each stack by at most one symbol, and one that is refused leaves the buffers as they were.
 abbrev pub Grows : Walk → Stepped → List ℕ → List ℕ → List ℕ → List ℕ → Type 0
-Grows w (Made v) a b a′ b′ = (v .a ≤ w .a + 1) × (v .b ≤ w .b + 1)
+Grows w (Made v) a b a′ b′ = GrowsBy 1 w (Made v)
 Grows w (Refused n) a b a′ b′ = (a′ ≡ a) × (b′ ≡ b)
 
 -- What one thread's step makes of the shared state and its stack.
