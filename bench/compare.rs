@@ -1,4 +1,5 @@
-// Before anything is timed: both sides must say the same of a model, and each schedule must replay on both and give the same page.
+// Before anything is timed: both sides must say the same of a model, and each schedule must reach the target on both, not before its
+// last step, and give the same page.
 use crate::{numbers, proved, reference};
 
 pub fn agree(record: &[u8]) -> Result<(), String> {
@@ -21,14 +22,22 @@ pub fn agree(record: &[u8]) -> Result<(), String> {
     if numbers::kind(verdict.0) == numbers::FOUND {
         for schedule in &schedules {
             let steps = &schedule[..2 * numbers::steps(verdict.0)];
-            let last = (proved::replay(record, steps), reference::replay(record, steps));
-            if last.0 != last.1 || numbers::kind(last.0) != numbers::REACHED {
-                return Err(format!("replay says {} and {}", last.0, last.1));
+            same_replay(record, steps, numbers::REACHED)?;
+            if let Some(short) = steps.len().checked_sub(2) {
+                same_replay(record, &steps[..short], numbers::STOPPED)?;
             }
             same_page(record, steps)?;
         }
     }
     same_page(record, &[])
+}
+
+fn same_replay(record: &[u8], schedule: &[u8], kind: u64) -> Result<(), String> {
+    let last = (proved::replay(record, schedule), reference::replay(record, schedule));
+    if last.0 != last.1 || numbers::kind(last.0) != kind {
+        return Err(format!("replay says {} and {}", last.0, last.1));
+    }
+    Ok(())
 }
 
 // The whole stores are compared, so neither side may write beyond its page.

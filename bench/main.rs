@@ -8,6 +8,7 @@ mod reference;
 use models::Family;
 use std::hint::black_box;
 use std::io::{IsTerminal, Write};
+use std::ops::Range;
 use std::time::Instant;
 
 // Best times of one call on one model, in nanoseconds.
@@ -32,8 +33,14 @@ struct Row {
 
 type Call = fn(&Case) -> Pair;
 
-const CALLS: [(&str, Call); 5] =
-    [("judgement", judgement), ("line table", line_table), ("replay", replay), ("page", page), ("read", read)];
+// The calls, and which families with tops have a row: all for the judgement, and for each other call the dense ones with both.
+const CALLS: [(&str, Call, Range<usize>); 5] = [
+    ("judgement", judgement, 0..4),
+    ("line table", line_table, 1..2),
+    ("replay", replay, 1..2),
+    ("page", page, 1..2),
+    ("read", read, 1..2),
+];
 
 // Each row is timed in so many rounds, and the best counts: a machine that is busy for some seconds spoils one of them.
 const ROUNDS: u32 = 4;
@@ -45,8 +52,9 @@ const HEAD: &str = "| Proved: median | worst | Unproved: median | worst | Ratio 
 
 fn main() {
     let fixed = models::fixed();
+    let topped = models::topped();
     let grown = GROWTH.map(|(k, rules)| models::random(&format!("K={k}, {rules}+{rules} rules"), 16, k, 16, rules));
-    for family in fixed.iter().chain(&grown) {
+    for family in fixed.iter().chain(&topped).chain(&grown).chain(&models::untimed()) {
         for (i, record) in family.records.iter().enumerate() {
             if let Err(what) = compare::agree(record) {
                 eprintln!("error: {}, model {i}: {what}", family.name);
@@ -56,8 +64,9 @@ fn main() {
     }
 
     let mut rows = Vec::new();
-    for (name, call) in CALLS {
-        rows.extend(fixed.iter().map(|family| Row::new(format!("{name} | {}", family.name), call, family)));
+    for (name, call, with_tops) in CALLS {
+        let families = fixed.iter().chain(&topped[with_tops]);
+        rows.extend(families.map(|family| Row::new(format!("{name} | {}", family.name), call, family)));
     }
     let first = rows.len();
     for ((k, rules), family) in GROWTH.iter().zip(&grown) {

@@ -24,8 +24,10 @@ pub struct Rule {
     pub right: Right,
 }
 
+// `top` is the symbol that must top its stack at the target, where one is named.
 pub struct Thread {
     pub first: usize,
+    pub top: Option<usize>,
     pub rules: Vec<Rule>,
 }
 
@@ -54,8 +56,8 @@ pub fn lines(record: &[u8], store: &mut [u8]) -> u64 {
     if store.len() < bytes_for(&model) {
         return 7;
     }
-    let (a, b) = costs::both(&model);
-    draw(&model, &a, &b, store);
+    let [a, b] = costs::lines(&model);
+    draw(&model, &a.any, &b.any, store);
     DONE
 }
 
@@ -68,9 +70,10 @@ pub fn judge(record: &[u8], store: &mut [u8], schedule: &mut [u8]) -> u64 {
     if store.len() < bytes_for(&model) || schedule.len() < 8190 {
         return 7;
     }
-    let (a, b) = costs::both(&model);
-    draw(&model, &a, &b, store);
-    let (steps, line) = choose(&model, &a, &b);
+    let [a, b] = costs::both(&model);
+    draw(&model, &a.any, &b.any, store);
+    let (a, b) = (a.asked(), b.asked());
+    let (steps, line) = choose(&model, a, b);
     if steps > table::LONG {
         return CLEAR;
     }
@@ -87,8 +90,8 @@ pub fn replay(record: &[u8], schedule: &[u8]) -> u64 {
         Err(number) => return number,
     };
     match walk::walk(&model, schedule) {
-        Ok(last) if last == model.target => packed(REACHED, last as u64),
-        Ok(last) => packed(STOPPED, last as u64),
+        Ok((last, true)) => packed(REACHED, last as u64),
+        Ok((last, false)) => packed(STOPPED, last as u64),
         Err(number) => number,
     }
 }

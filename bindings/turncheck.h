@@ -5,6 +5,9 @@
  * answer stands above the kind, and a macro takes it out. A call that refuses changes no byte of any store. Nothing else is asked of
  * the bytes: any are taken.
  *
+ * A record may name the symbol that tops A's stack at the target, B's, or both. A run reaches the target if it ends with the target state
+ * under the tops that are named; an empty stack has no top.
+ *
  * Each slice is a pointer and a length. The pointer is never NULL, even where the length is 0. While a call runs, nothing else
  * writes to its slices, and no store overlaps another slice of the same call. A call keeps no pointer, allocates nothing and has
  * no state of its own, so calls may run side by side. The deepest models that we know take less than 512 KB of stack: give a call
@@ -22,7 +25,7 @@ extern "C" {
 #endif
 
 /* Sizes that are enough for every model. */
-#define TURNCHECK_RECORD_BYTES 649    /* the longest record */
+#define TURNCHECK_RECORD_BYTES 652    /* the longest record */
 #define TURNCHECK_LINES_BYTES 683     /* the largest line table: 5,460 bits, of a model with G = 4 and K = 3 */
 #define TURNCHECK_SCHEDULE_BYTES 8190 /* the longest schedule: 4,095 steps; what turncheck_judge asks for */
 #define TURNCHECK_PAGE_BYTES 299008   /* the longest page, that of 4,095 steps: 73 bytes for each step and 73 for the foot line */
@@ -48,8 +51,8 @@ enum turncheck_kind {
     TURNCHECK_CLEAR = 33,   /* turncheck_judge: no run reaches the target */
     TURNCHECK_LONG = 34,    /* turncheck_judge: some run does, and each that does has more than 4,095 steps */
     TURNCHECK_FOUND = 35,   /* turncheck_judge: some run does, and a shortest that does has TURNCHECK_STEPS steps */
-    TURNCHECK_STOPPED = 36, /* turncheck_replay: the last shared state is TURNCHECK_STATE, which is not the target */
-    TURNCHECK_REACHED = 37, /* turncheck_replay: the last shared state is TURNCHECK_STATE, which is the target */
+    TURNCHECK_STOPPED = 36, /* turncheck_replay: the last shared state is TURNCHECK_STATE, and the run does not end at the target */
+    TURNCHECK_REACHED = 37, /* turncheck_replay: the last shared state is TURNCHECK_STATE, and the run ends at the target */
     TURNCHECK_TAKEN = 38,   /* turncheck_first: the tray's first TURNCHECK_LENGTH bytes are a record */
     TURNCHECK_NONE = 39,    /* turncheck_first: the tray is empty */
     TURNCHECK_PAGED = 40    /* turncheck_page: TURNCHECK_PAGE_LENGTH bytes were written */
@@ -64,7 +67,7 @@ enum turncheck_kind {
 #define TURNCHECK_IS_REFUSED(number) (TURNCHECK_KIND(number) >= 1 && TURNCHECK_KIND(number) <= 31)
 
 /* What a number of the right kind carries. */
-#define TURNCHECK_LENGTH(number) TURNCHECK_FIELD1(number) /* TURNCHECK_WRITTEN, TURNCHECK_TAKEN: a record's length, at most 649 */
+#define TURNCHECK_LENGTH(number) TURNCHECK_FIELD1(number) /* TURNCHECK_WRITTEN, TURNCHECK_TAKEN: a record's length, at most 652 */
 #define TURNCHECK_STEPS(number) TURNCHECK_FIELD1(number)  /* TURNCHECK_FOUND: steps, at most 4,095 */
 #define TURNCHECK_STATE(number) TURNCHECK_FIELD1(number)  /* TURNCHECK_STOPPED, TURNCHECK_REACHED: a state, at most 3 */
 #define TURNCHECK_PAGE_LENGTH(number) ((size_t)((number) >> 16 & 0xFFFFFFFF)) /* TURNCHECK_PAGED: at most 299,008 */

@@ -1,10 +1,11 @@
 // The least steps of each thread along each full line.
-use super::table::{joined, Table, FLOOR};
+use super::table::{joined, Table, FLOOR, NAMED, STAYS};
 use super::{Model, Thread};
 
-// One thread of a model and its part in a line: A moves in even turns, B in odd ones.
+// One thread of a model and its part in a line: A moves in even turns, B in odd ones. `top` is the one its table is for.
 pub struct Part<'a> {
     pub thread: &'a Thread,
+    pub top: Option<usize>,
     pub g: usize,
     pub n: usize,
     pub other: usize,
@@ -17,15 +18,40 @@ pub struct Ends {
     pub lanes: [usize; 2],
 }
 
-pub fn both(m: &Model) -> (Vec<u64>, Vec<u64>) {
+// The costs to any top, for the line table, and to the named one, where there is one, for the verdict.
+pub struct Costs {
+    pub any: Vec<u64>,
+    named: Option<Vec<u64>>,
+}
+
+impl Costs {
+    // Those that the verdict is about.
+    pub fn asked(&self) -> &[u64] {
+        self.named.as_ref().unwrap_or(&self.any)
+    }
+}
+
+// Both threads' costs to any top alone, which is all that the line table needs.
+pub fn lines(m: &Model) -> [Costs; 2] {
     let mut table = Table::new();
-    let [a, b] = parts(m);
-    (a.costs(&mut table), b.costs(&mut table))
+    parts(m).map(|part| Part { top: None, ..part }.costs(&mut table))
+}
+
+// Both threads' costs, to the tops that the model names too.
+pub fn both(m: &Model) -> [Costs; 2] {
+    let mut table = Table::new();
+    parts(m).map(|part| part.costs(&mut table))
 }
 
 pub fn parts(m: &Model) -> [Part<'_>; 2] {
-    let part = |thread, other| Part { thread, g: m.g, n: m.k - 1, other, start: m.start };
-    [part(&m.a, 0), part(&m.b, 1)]
+    [(&m.a, 0), (&m.b, 1)].map(|(thread, other)| Part {
+        thread,
+        top: thread.top,
+        g: m.g,
+        n: m.k - 1,
+        other,
+        start: m.start,
+    })
 }
 
 impl Part<'_> {
@@ -50,44 +76,54 @@ impl Part<'_> {
         }
     }
 
-    fn costs(&self, t: &mut Table) -> Vec<u64> {
+    fn costs(&self, t: &mut Table) -> Costs {
         let g = self.g;
         let count = g.pow(2 * self.n as u32 + 2);
-        t.close_plain(g, self.thread);
+        t.close_plain(g, self.top, self.thread);
         if self.n >= 1 {
             t.close_first(g, self.thread);
         }
         if self.n < 2 {
-            return (0..count).map(|v| self.line_cost(t, v)).collect();
+            let all = |stays| (0..count).map(|v| self.line_cost(t, stays, v)).collect();
+            return Costs { any: all(STAYS), named: self.top.map(|_| all(NAMED)) };
         }
-        let mut costs = vec![0; count];
-        // the lines whose first turn end is (o, i): `heads` states stand before it, `tails` ways to go on after it
-        let heads = g.pow(self.other as u32);
-        let tails = count / heads / (g * g);
+        let mut costs = Costs { any: vec![0; count], named: self.top.map(|_| vec![0; count]) };
         for o in 0..g {
             for i in 0..g {
                 t.close_second(g, o, i, self.thread);
-                for head in 0..heads {
-                    let first = ((head * g + o) * g + i) * tails;
-                    for (rest, cost) in costs[first..first + tails].iter_mut().enumerate() {
-                        *cost = self.line_cost(t, first + rest);
-                    }
+                self.slice(t, STAYS, o, i, &mut costs.any);
+                if let Some(named) = &mut costs.named {
+                    self.slice(t, NAMED, o, i, named);
                 }
             }
         }
         costs
     }
 
-    // The first symbol still stands at the end, or it has gone after j turn ends and the floor stands until the end.
-    fn line_cost(&self, t: &Table, v: usize) -> u64 {
+    // The lines whose first turn end is (o, i): `heads` states stand before it, `tails` ways to go on after it.
+    fn slice(&self, t: &Table, stays: usize, o: usize, i: usize, costs: &mut [u64]) {
+        let g = self.g;
+        let heads = g.pow(self.other as u32);
+        let tails = costs.len() / heads / (g * g);
+        for head in 0..heads {
+            let first = ((head * g + o) * g + i) * tails;
+            for (rest, cost) in costs[first..first + tails].iter_mut().enumerate() {
+                *cost = self.line_cost(t, stays, first + rest);
+            }
+        }
+    }
+
+    // The first symbol still stands at the end, or it has gone after j turn ends and the floor stands until the end; to a top whose
+    // destinations start at `stays`.
+    fn line_cost(&self, t: &Table, stays: usize, v: usize) -> u64 {
         let Ends { from, to, lanes } = self.ends(v);
         let lane_to = |j| if j == 1 { lanes[0] } else { lanes[1] };
-        let top = self.thread.first;
-        let mut best = t.entry(self.n, from, top, 4 + to, lane_to(self.n));
+        let symbol = self.thread.first;
+        let mut best = t.entry(self.n, from, symbol, stays + to, lane_to(self.n));
         for j in 0..=self.n {
             for s in 0..self.g {
-                let gone = t.entry(j, from, top, s, lane_to(j));
-                let rest = t.entry(self.n - j, s, FLOOR, 4 + to, lane_to(self.n));
+                let gone = t.entry(j, from, symbol, s, lane_to(j));
+                let rest = t.entry(self.n - j, s, FLOOR, stays + to, lane_to(self.n));
                 best = joined(gone, rest, best);
             }
         }

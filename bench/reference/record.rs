@@ -16,7 +16,14 @@ pub fn read(bytes: &[u8]) -> Result<Model, u64> {
     let g = r.field(bit(0), 3, 1, 5, 4)?;
     let k = r.field(bit(1), 3, 1, 4, 2)?;
     let start = r.field(bit(2), 3, 0, g, 0)?;
-    let target = r.ranged(3, 0, g)?;
+    let target = r.byte()?;
+    if g <= target % 128 {
+        return Err(3);
+    }
+    // a second map, of the tops
+    let tops = r.field(target >= 128, 3, 0, 4, 0)?;
+    let top_a = r.top(tops & 1 == 1)?;
+    let top_b = r.top(tops & 2 == 2)?;
     let a = r.field(bit(4), 3, 0, 16, 0)?;
     let b = r.field(bit(5), 3, 0, 16, 0)?;
     let rules_a = r.rules(bit(6), g)?;
@@ -28,9 +35,9 @@ pub fn read(bytes: &[u8]) -> Result<Model, u64> {
         g: g as usize,
         k: k as usize,
         start: start as usize,
-        target: target as usize,
-        a: Thread { first: a as usize, rules: rules_a },
-        b: Thread { first: b as usize, rules: rules_b },
+        target: (target % 128) as usize,
+        a: Thread { first: a as usize, top: top_a, rules: rules_a },
+        b: Thread { first: b as usize, top: top_b, rules: rules_b },
     })
 }
 
@@ -58,6 +65,13 @@ impl Reader<'_> {
             byte if byte == absent => Err(5),
             byte => Ok(byte),
         }
+    }
+
+    fn top(&mut self, present: bool) -> Result<Option<usize>, u64> {
+        if !present {
+            return Ok(None);
+        }
+        self.ranged(3, 0, 16).map(|top| Some(top as usize))
     }
 
     fn rules(&mut self, present: bool, g: u8) -> Result<Vec<Rule>, u64> {

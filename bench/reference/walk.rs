@@ -1,4 +1,4 @@
-// The walk of a schedule from the start: the last shared state, or the number of the first fault.
+// The walk of a schedule from the start.
 use super::{Model, Right};
 
 // Where a walk is: the turn of its last step and the shared state. The stacks are apart from it, bottom first.
@@ -9,7 +9,8 @@ pub struct Walk {
 
 pub type Stacks = [Vec<usize>; 2];
 
-pub fn walk(m: &Model, schedule: &[u8]) -> Result<usize, u64> {
+// The last shared state and whether the run ends at the target, or the number of the first fault.
+pub fn walk(m: &Model, schedule: &[u8]) -> Result<(usize, bool), u64> {
     if schedule.len() % 2 != 0 || schedule.len() > 8190 {
         return Err(8);
     }
@@ -17,7 +18,13 @@ pub fn walk(m: &Model, schedule: &[u8]) -> Result<usize, u64> {
     for step in schedule.chunks_exact(2) {
         walk.step(m, step, &mut stacks)?;
     }
-    Ok(walk.shared)
+    let [a, b] = &stacks;
+    Ok((walk.shared, walk.shared == m.target && has_top(m.a.top, a) && has_top(m.b.top, b)))
+}
+
+// Whether a stack has the top that is asked for. An empty one has none.
+fn has_top(top: Option<usize>, stack: &[usize]) -> bool {
+    top.is_none() || stack.last() == top.as_ref()
 }
 
 impl Walk {

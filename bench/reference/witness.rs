@@ -1,6 +1,6 @@
 // A shortest schedule along a chosen line: each thread's steps by tight first moves, then both merged by turn.
 use super::costs::{parts, Part};
-use super::table::{Table, FLOOR, NONE};
+use super::table::{Table, FLOOR, NAMED, NONE, STAYS};
 use super::{Model, Right, Rule};
 
 // A stretch to be written: from `passed` turn ends and a state, with a symbol on top, to `until` turn ends and a destination.
@@ -38,7 +38,7 @@ pub fn write(m: &Model, v: usize, x: u64, y: u64, schedule: &mut [u8]) {
 fn steps(part: &Part, v: usize, count: u64) -> Vec<[u8; 2]> {
     let ends = part.ends(v);
     let mut table = Table::new();
-    table.close_plain(part.g, part.thread);
+    table.close_plain(part.g, part.top, part.thread);
     if part.n >= 1 {
         table.close_first(part.g, part.thread);
     }
@@ -46,7 +46,8 @@ fn steps(part: &Part, v: usize, count: u64) -> Vec<[u8; 2]> {
         table.close_second(part.g, ends.lanes[0] / 4, ends.lanes[0] % 4, part.thread);
     }
     let symbol = part.thread.first;
-    let goal = Goal { passed: 0, shared: ends.from, symbol, until: part.n, dest: 4 + ends.to };
+    let stays = if part.top.is_some() { NAMED } else { STAYS };
+    let goal = Goal { passed: 0, shared: ends.from, symbol, until: part.n, dest: stays + ends.to };
     let mut writer = Writer { table, part, lanes: ends.lanes, out: Vec::with_capacity(count as usize) };
     writer.pair(goal, FLOOR, count);
     writer.out

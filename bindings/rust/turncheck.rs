@@ -1,10 +1,12 @@
 //! turncheck from Rust: a proved checker for races between two threads with stacks.
 //!
 //! Each call takes the bytes of a model record, or of a tray of them. A call that refuses changes no byte of any store.
+//! A record may name the symbol that tops A's stack at the target, B's, or both. A run reaches the target if it ends with the target
+//! state under the tops that are named; an empty stack has no top.
 //! The deepest models that we know take less than 512 KB of stack; a Rust thread has 2 MB by default.
 
 /// The longest record.
-pub const RECORD_BYTES: usize = 649;
+pub const RECORD_BYTES: usize = 652;
 /// The largest line table: 5,460 bits, of a model with G = 4 and K = 3.
 pub const LINES_BYTES: usize = 683;
 /// The longest schedule, of 4,095 steps: what `judge` asks for, whatever the verdict.
@@ -48,7 +50,7 @@ pub enum Verdict {
     Found(usize),
 }
 
-/// Where a schedule ends.
+/// Where a schedule ends: the last shared state, and whether its run reaches the target.
 #[derive(Clone, Copy, Debug, PartialEq, Eq)]
 pub struct Last {
     pub state: u16,

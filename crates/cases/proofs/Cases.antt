@@ -13,14 +13,14 @@ use Rattle.model.specs.Lines.{powers, digits}
 use Rattle.model.specs.Results.{refused, accepted, firstOf}
 use Rattle.model.specs.Rules.{applies}
 use Rattle.model.specs.Schedules.{stepsOf, mostSteps}
-use Rattle.model.specs.Valid.{Valid, headFault, symbolFault, rightFault, ruleFault, threadFault, faultOf}
+use Rattle.model.specs.Valid.{Valid, headFault, rangeFault, topFault, symbolFault, rightFault, ruleFault, threadFault, faultOf}
 use Rattle.model.specs.Verdict.{found, Judged}
 use Rattle.model.specs.Walk.{walk, stepFrom, fire, turnFits}
 use Rattle.model.proofs.Ranges.{valid-fits}
 use Rattle.model.proofs.Table.{every, at}
 use Rattle.model.proofs.Tests.{passed, both, equal, tests}
 use Rattle.model.proofs.Stores.{length-bytes}
-use Rattle.record.specs.Reader.{Read, readOf, parseFront, parseHead, parseByte, parseRanged, parseField, parseRight, parseRule, parseRuleList, parseRules}
+use Rattle.record.specs.Reader.{Read, readOf, parseFront, parseHead, parseByte, parseRanged, parseField, parseRight, parseRule, parseRuleList, parseRules, parseTarget, parseTop, parseSecond}
 use Rattle.replay.specs.declared.Replayed.{Replayed}
 use Rattle.replay.specs.declared.Replayed.the-variants as replayed
 use Rattle.replay.specs.Replay.{replayOf, sizeFits}
@@ -85,7 +85,7 @@ scheduled m n schedule e h =
     let l = accepts m schedule (m .target) true .0 same in (
       record {
         steps = l .steps;
-        run = l .leads;
+        run = record { shared = m .target .0; stacks = l .stacks; leads = l .leads; target = rw (← l .target) tt };
         count = omega (arith, length-bytes (l .steps), ap length (l .written), e);
         shown = l .written;
       },
@@ -127,7 +127,7 @@ unfolding holds
 claimed c t = come (c .bytes) (readOf (c .bytes)) refl (c .answer) t
 
 all-hold : T (every (λ i. holds) cases)
-unfolding cases holds comes judges readOf parseFront parseHead parseByte parseRanged parseField parseRight parseRule parseRuleList parseRules explored grow closed next avoids delays absent followed bitRight bitsRight drawn finds powers digits applies replayOf stepsOf sizeFits walk stepFrom fire turnFits faultOf headFault threadFault ruleFault rightFault symbolFault firstOf
+unfolding cases holds comes judges readOf parseFront parseHead parseByte parseRanged parseField parseRight parseRule parseRuleList parseRules parseTarget parseTop parseSecond explored grow closed next avoids delays absent followed bitRight bitsRight drawn finds powers digits applies replayOf stepsOf sizeFits walk stepFrom fire turnFits faultOf headFault rangeFault topFault threadFault ruleFault rightFault symbolFault firstOf
 all-hold = tt
 
 -- Every case of the table has its claims.

@@ -10,7 +10,7 @@ use lib.Dec.{T}
 use lib.ListN.{length, length-append}
 use Rattle.model.specs.declared.Model.{Model}
 use Rattle.model.specs.Lines.{lastOf}
-use Rattle.model.specs.Runs.{Turns, stop, end, move}
+use Rattle.model.specs.Runs.{Turns, stop, end, move, RunOf}
 use Rattle.model.specs.Walk.{Stacks, startStacks, Step}
 use Rattle.model.proofs.Tests.{both}
 use Rattle.cases.proofs.Scans.{all, any, those, pick}
@@ -60,27 +60,27 @@ passes f {set} h t =
 
 module _ (m : Model) (limit : ℕ) (set : List Abstract) (all-follow : T (all (follows m limit set) set)) where
   -- A run that goes on from an abstract configuration of the set stays in it.
-  stays : {t q : ℕ} {σ : Stacks} {line : List ℕ} {ss : List Step} → Turns m t q σ line ss
+  stays : {t q : ℕ} {σ τ : Stacks} {line : List ℕ} {ss : List Step} → Turns m t q σ line ss τ
       → (before : List ℕ) (n : ℕ) → length before ≡ t → t + length line ≤ 2 * m .k → At set before n q σ
-      → (τ : Stacks) × At set (before ++ line) (n + length ss) (lastOf q line) τ
-  stays {σ = σ} stop before n e h k = (σ, rw (append-nil, add-zero) k)
+      → At set (before ++ line) (n + length ss) (lastOf q line) τ
+  stays stop before n e h k = rw (append-nil, add-zero) k
   stays (end {q = q} r) before n e h k =
       let c = passes (follows m limit set) k all-follow in
       let p = next-end (known set) m limit (c .0) (c .2) (omega arith) (c .1) in
       let rest = stays r (before ++ (q ∷ [])) n (rw length-append (omega arith)) (omega arith)
       (record { place = ended (c .0); inside = p .0; holds = p .1 }) in
-      (rest .0, rw append-assoc at (rest .1))
+      rw append-assoc at rest
   stays (move {t = t} {r = r} {top = x} {w = w} {ss = ss} e a u) before n z h k =
       let c = passes (follows m limit set) k all-follow in
       let p = next-move (known set) m limit (c .0) (c .2) (omega arith) (c .1) t z r x w e a in
       let rest = stays u before (suc n) z h (record { place = p .0; inside = p .1; holds = p .2 }) in
       let same : suc n + length ss ≡ n + suc (length ss) = omega arith in
-      (rest .0, rw same at (rest .1))
+      rw same at rest
 
 -- A run from the start along a line ends at an abstract configuration of a closed set.
 pub arrives : (m : Model) (limit : ℕ) (set : List Abstract) → T (closed m limit set) → (line : List ℕ) (ss : List Step)
-    → length line ≤ 2 * m .k → Turns m 0 (m .start .0) (startStacks m) line ss
-    → (τ : Stacks) × At set line (length ss) (lastOf (m .start .0) line) τ
+    → length line ≤ 2 * m .k → {τ : Stacks} → RunOf m line ss τ
+    → At set line (length ss) (lastOf (m .start .0) line) τ
 unfolding closed
 arrives m limit set t line ss h r =
     let w = both (known set (startAbstract m)) (all (follows m limit set) set) .0 t in

@@ -40,11 +40,11 @@ finds (suc more) m t q σ (o ∷ line) =
 
 -- Then there is such a run.
 pub finds-run : (more : ℕ) (m : Model) (t q : ℕ) (σ : Stacks) (line : List ℕ) → T (finds more m t q σ line)
-    → (ss : List Step) × Turns m t q σ line ss
+    → (ss : List Step) × (τ : Stacks) × Turns m t q σ line ss τ
 unfolding finds
-finds-run zero m t q σ [] h = ([], stop)
+finds-run zero m t q σ [] h = ([], σ, stop)
 finds-run zero m t q σ (o ∷ line) h = absurd h
-finds-run (suc more) m t q σ [] h = ([], stop)
+finds-run (suc more) m t q σ [] h = ([], σ, stop)
 finds-run (suc more) m t q σ (o ∷ line) h =
     let over : Bool = finds more m (suc t) q σ line in
     let onward : List ℕ → ℕ → Bool = λ w r. finds more m t (ruleOf m t r .after .0) (stacksBy m t σ w r) (o ∷ line) in
@@ -54,11 +54,11 @@ finds-run (suc more) m t q σ (o ∷ line) h =
       | inl z ↦
           let w = both (eqb q o) over .0 z in
           let r = finds-run more m (suc t) q σ line (w .1) in
-          (r .0, subst (λ u. Turns m t q σ (u ∷ line) (r .0)) (equal q o .0 (w .0)) (end (r .1)))
+          (r .0, r .1, subst (λ u. Turns m t q σ (u ∷ line) (r .0) (r .1)) (equal q o .0 (w .0)) (end (r .2)))
       | inr z ↦
           let s = on-top (stackOf (ownerOf t) σ) moves z in
           let by-one = some-at (threadOf (ownerOf t) m .count) (by (s .0) (s .1)) (s .3) in
           let w = both (applies (threadOf (ownerOf t) m) (by-one .0) q (s .0)) (onward (s .1) (by-one .0)) .0 (by-one .1) in
           let r = finds-run more m t (ruleOf m t (by-one .0) .after .0) (stacksBy m t σ (s .1) (by-one .0)) (o ∷ line) (w .1) in
-          (record { turn = t; rule = by-one .0 } ∷ r .0, move {ss = r .0} (s .2) (w .0) (r .1))
+          (record { turn = t; rule = by-one .0 } ∷ r .0, r .1, move {τ = r .1} {ss = r .0} (s .2) (w .0) (r .2))
     ]

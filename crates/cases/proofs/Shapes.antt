@@ -7,7 +7,10 @@ use Prim.Native.Nat.{ℕ, zero, suc}
 use lib.Dec.{T, eqb}
 use Rattle.model.specs.declared.Right.{Right}
 use Rattle.model.specs.declared.Right.the-variants.{Remove, Swap, Push}
+use Rattle.model.specs.declared.Top.{Top}
+use Rattle.model.specs.declared.Top.the-variants.{Any, Named}
 use Rattle.model.specs.Rules.{put}
+use Rattle.model.specs.Walk.{hasTop}
 use Rattle.model.proofs.Tests.{passed, both, equal}
 use Rattle.cases.proofs.Scans.{all}
 
@@ -23,6 +26,22 @@ Matches empty (x ∷ w) = ⊥
 Matches unknown w = Unit {0}
 Matches (top γ s) [] = ⊥
 Matches (top γ s) (x ∷ w) = (γ ≡ x) × Matches s w
+
+-- A stack of that shape may have the top that is asked for ..
+abbrev pub mayHave : Top → Shape → Bool
+mayHave Any s = true
+mayHave (Named a) empty = false
+mayHave (Named a) unknown = true
+mayHave (Named a) (top γ s) = eqb γ (a .0)
+
+-- .. and where one has it, its shape says so.
+pub may-have : (t : Top) (s : Shape) (w : List ℕ) → Matches s w → T (hasTop t w) → T (mayHave t s)
+may-have Any s w o h = tt
+may-have (Named a) empty [] o h = h
+may-have (Named a) empty (x ∷ w) o h = absurd o
+may-have (Named a) unknown w o h = tt
+may-have (Named a) (top γ s) [] o h = absurd o
+may-have (Named a) (top γ s) (x ∷ w) o h = rw (o .0) h
 
 -- One shape says no less than another.
 abbrev pub under : Shape → Shape → Bool
@@ -70,9 +89,9 @@ laid-matches Remove s w o = o
 laid-matches (Swap a) s w o = (refl, o)
 laid-matches (Push a b) s w o = (refl, (refl, o))
 
--- Then one symbol is kept, so that there are few shapes, however deep the stacks.
+-- Then two symbols are kept, so that there are few shapes, however deep the stacks.
 abbrev pub lay : Right → Shape → Shape
-lay x s = cut 1 (laid x s)
+lay x s = cut 2 (laid x s)
 
 -- The shapes to which a rule for symbol γ may lead: none where the top is known to be another, or there is no top.
 abbrev pub fired : ℕ → Right → Shape → List Shape
@@ -85,7 +104,7 @@ pub fired-matches : (f : Shape → Bool) (γ : ℕ) (x : Right) (s : Shape) (w :
     → T (all f (fired γ x s)) → (d : Shape) × T (f d) × Matches d (put x w)
 fired-matches f γ x empty w o t = absurd o
 fired-matches f γ x unknown w o t =
-    (lay x unknown, both (f (lay x unknown)) true .0 t .0, cut-matches 1 (laid x unknown) (put x w) (laid-matches x unknown w tt))
+    (lay x unknown, both (f (lay x unknown)) true .0 t .0, cut-matches 2 (laid x unknown) (put x w) (laid-matches x unknown w tt))
 fired-matches f γ x (top l s) w o t =
     let u : T (f (lay x s) && true) = rw (passed (eqb γ l) (equal γ l .1 (sym (o .0)))) at t in
-    (lay x s, both (f (lay x s)) true .0 u .0, cut-matches 1 (laid x s) (put x w) (laid-matches x s w (o .1)))
+    (lay x s, both (f (lay x s)) true .0 u .0, cut-matches 2 (laid x s) (put x w) (laid-matches x s w (o .1)))

@@ -13,20 +13,21 @@ use Rattle.model.specs.Lines.{Line, powers, bits, value, position, digits}
 use Rattle.model.specs.Runs.{Reaches, Marked}
 use Rattle.model.specs.Tables.{bitAt, bytesFor, LineTable}
 use Rattle.model.specs.Verdict.{clear, Judged, AtLeast}
-use Rattle.model.specs.Walk.{Stacks, startStacks, Step}
+use Rattle.model.specs.Walk.{Stacks, startStacks, Step, hasTop, underTops, atTarget}
 use Rattle.model.proofs.Positions.{value-below, digits-value}
 use Rattle.model.proofs.Tests.{both, order, equal}
 use Rattle.model.proofs.Turns.{legal-full}
 use Rattle.cases.proofs.Explored.{closed, arrives, At, passes}
-use Rattle.cases.proofs.Abstracts.{Abstract}
+use Rattle.cases.proofs.Abstracts.{Abstract, Describes}
 use Rattle.cases.proofs.Scans.{either, all, alike, alike-refl, below, at-below}
 use Rattle.cases.proofs.Search.{finds, finds-run}
+use Rattle.cases.proofs.Shapes.{mayHave, may-have}
 
--- The shared state of an abstract configuration is the target.
+-- The shared state of an abstract configuration is the target's, and its stacks may have the tops that are named.
 abbrev pub onTarget : Model → Abstract → Bool
-onTarget m c = eqb (c .shared) (m .target .0)
+onTarget m c = eqb (c .shared) (m .target .0) && (mayHave (m .a .top) (c .a) && mayHave (m .b .top) (c .b))
 
--- No abstract configuration has the target as its shared state ..
+-- No abstract configuration may be at the target ..
 unfoldable pub avoids : Model → List Abstract → Bool
 avoids m set = all (λ c. not (onTarget m c)) set
 
@@ -70,36 +71,45 @@ spared count false p h t = refl
 spared count true p h t =
     elim (either (ltb p count) false t) [ inl z ↦ absurd (omega (arith, ltb→lt p count z)) | inr z ↦ absurd z ]
 
+-- A run that is at the target is described only by abstract configurations that may be.
+on-target : (m : Model) (c : Abstract) {line : List ℕ} {n q : ℕ} {σ : Stacks} → Describes c line n q σ
+    → T (atTarget m q σ) → T (onTarget m c)
+on-target m c {q = q} {σ = σ} d h =
+    let w = both (eqb q (m .target .0)) (underTops m σ) .0 h in
+    let u = both (hasTop (m .a .top) (σ .a)) (hasTop (m .b .top) (σ .b)) .0 (w .1) in
+    let a = may-have (m .a .top) (c .a) (σ .a) (d .a) (u .0) in
+    let b = may-have (m .b .top) (c .b) (σ .b) (d .b) (u .1) in
+    both (eqb (c .shared) (m .target .0)) (mayHave (m .a .top) (c .a) && mayHave (m .b .top) (c .b)) .1
+    (rw (d .shared) (w .0), both (mayHave (m .a .top) (c .a)) (mayHave (m .b .top) (c .b)) .1 (a, b))
+
 module _ (m : Model) (limit : ℕ) (set : List Abstract) (t : T (closed m limit set)) where
-  -- A run that reaches the target is at an abstract configuration of the set.
-  reached : 1 ≤ m .k → (ss : List Step) → Reaches m ss
-      → (line : List ℕ) × (τ : Stacks) × At set line (length ss) (m .target .0) τ
-  reached k ss r =
-      let a = legal-full ss (m .target .0) k .0 r in
+  -- A run that reaches the target is at an abstract configuration that may be there, and that passes a test which all of the set pass.
+  reached : 1 ≤ m .k → (ss : List Step) → Reaches m ss → (f : Abstract → Bool) → T (all f set)
+      → (c : Abstract) × T (f c) × (c .steps ≤ length ss) × T (onTarget m c)
+  reached k ss r f h =
+      let a = legal-full ss (r .shared) (r .stacks) k .0 (r .leads) in
       let z = arrives m limit set t (a .line) ss (omega (arith, a .size)) (a .turns) in
-      (a .line, z .0, rw (a .last) at (z .1))
+      let c = passes f (rw (a .last) at z) h in
+      (c .0, c .1, c .2 .steps, on-target m (c .0) (c .2) (r .target))
 
   pub avoids-clear : 1 ≤ m .k → T (avoids m set) → Judged m clear
   unfolding avoids
   avoids-clear k h ss r =
-      let c = passes (λ c. not (onTarget m c)) (reached k ss r .2) h in
-      T-not (onTarget m (c .0)) (c .1) (equal (c .0 .shared) (m .target .0) .1 (c .2 .shared))
+      let c = reached k ss r (λ c. not (onTarget m c)) h in T-not (onTarget m (c .0)) (c .1) (c .3)
 
   pub delays-least : (n : ℕ) → 1 ≤ m .k → T (delays m n set) → AtLeast m n
   unfolding delays
   delays-least n k h ss r =
-      let c = passes (λ c. not (onTarget m c) || leb n (c .steps)) (reached k ss r .2) h in
-      let same = equal (c .0 .shared) (m .target .0) .1 (c .2 .shared) in
+      let c = reached k ss r (λ c. not (onTarget m c) || leb n (c .steps)) h in
       elim (either (not (onTarget m (c .0))) (leb n (c .0 .steps)) (c .1)) [
-        | inl y ↦ absurd (T-not (onTarget m (c .0)) y same)
-        | inr y ↦ omega (arith, order n (c .0 .steps) .0 y, c .2 .steps)
+        | inl y ↦ absurd (T-not (onTarget m (c .0)) y (c .3))
+        | inr y ↦ omega (arith, order n (c .0 .steps) .0 y, c .2)
       ]
 
   absent-unmarked : (line : List ℕ) → length line ≤ 2 * m .k → T (absent set line) → Marked m line → ⊥
   unfolding absent
   absent-unmarked line h a r =
-      let z = arrives m limit set t line (r .0) h (r .1) in
-      let c = passes (λ c. not (alike (c .line) line)) (z .1) a in
+      let c = passes (λ c. not (alike (c .line) line)) (arrives m limit set t line (r .0) h (r .2)) a in
       T-not (alike (c .0 .line) line) (c .1) (rw (c .2 .line) (alike-refl line))
 
   bits-right : (store : List ℕ) → T (bitsRight m set store) → (line : List ℕ) → Line (m .g) (m .k) line

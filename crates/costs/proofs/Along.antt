@@ -6,15 +6,17 @@ use mathlib.Core.Path.{_≡_, refl, sym, ap, subst, _∙_}
 use Prim.Native.Nat.{ℕ, zero, suc, _+_, _*_, _≤_, _<_}
 use native.Mathlib.Nat.{le-refl}
 use native.Mathlib.Omega.{arith}
+use lib.Dec.{T}
 use lib.ListN.{length, getD, drop, drop-of-length-le}
 use lib.Seq.{drop-cons}
 use Rattle.model.specs.declared.Model.{Model}
 use Rattle.model.specs.declared.Right.{Right}
+use Rattle.model.specs.declared.Top.{Top}
 use Rattle.model.specs.Lines.{States}
 use Rattle.model.specs.Rules.{put}
 use Rattle.model.specs.declared.ThreadId.{ThreadId}
 use Rattle.model.specs.declared.ThreadId.the-variants.{A, B}
-use Rattle.model.specs.Walk.{other, ownerOf, threadOf, Step}
+use Rattle.model.specs.Walk.{other, ownerOf, threadOf, hasTop, Step}
 use Rattle.summary.specs.Control.{Control, TurnEnd, Moves, Switches, InTable, Inside}
 use Rattle.summary.specs.Stretch.{Path}
 use Rattle.summary.proofs.Leasts.{least-as}
@@ -42,29 +44,29 @@ module _ {ends : ℕ → TurnEnd} {n e : ℕ} where
   some (spare a b) h = let z : _≡_ {A = ℕ} 0 1 = cc in omega arith
   some (more a b o) h = let z : _≡_ {A = ℕ} 0 1 = cc in omega arith
 
-module _ {m : Model} {i : ThreadId} where
-  -- After the line there are no steps.
-  over : {t g : ℕ} {w line : List ℕ} {ss : List Step} → View m i t g w line ss → line ≡ [] → ss ≡ []
-  over View.stop h = refl
+module _ {m : Model} {i : ThreadId} {top : Top} where
+  -- After the line there are no steps, and the top is one that will do.
+  over : {t g : ℕ} {w line : List ℕ} {ss : List Step} → View m i top t g w line ss → line ≡ [] → (ss ≡ []) × T (hasTop top w)
+  over (View.stop k) h = (refl, k)
   over (View.skip p v) h = absurd (let z : _≡_ {A = ℕ} 0 1 = cc in omega arith)
   over (View.end p v) h = absurd (let z : _≡_ {A = ℕ} 0 1 = cc in omega arith)
   over (View.move p a v) h = absurd (let z : _≡_ {A = ℕ} 0 1 = cc in omega arith)
 
   -- A turn that ends where the line says.
-  ended : {t g o : ℕ} {w line : List ℕ} {ss : List Step} → g ≡ o → ownerOf t ≡ i → View m i (suc t) g w line ss
-      → View m i t g w (o ∷ line) ss
-  ended {t} {g} {w = w} {line = line} {ss = ss} h p v = subst (λ u. View m i t g w (u ∷ line) ss) h (View.end p v)
+  ended : {t g o : ℕ} {w line : List ℕ} {ss : List Step} → g ≡ o → ownerOf t ≡ i → View m i top (suc t) g w line ss
+      → View m i top t g w (o ∷ line) ss
+  ended {t} {g} {w = w} {line = line} {ss = ss} h p v = subst (λ u. View m i top t g w (u ∷ line) ss) h (View.end p v)
 
-module _ {m : Model} {i : ThreadId} {turn : ℕ → ℕ} (own : (j : ℕ) → ownerOf (turn j) ≡ i)
+module _ {m : Model} {i : ThreadId} {top : Top} {turn : ℕ → ℕ} (own : (j : ℕ) → ownerOf (turn j) ≡ i)
     (next : (j : ℕ) → turn (suc j) ≡ suc (suc (turn j))) {ends : ℕ → TurnEnd} {n e : ℕ} where
   -- A view from one of the thread's own turns on is a run.
-  to : {t g j : ℕ} {w line : List ℕ} {ss : List Step} → View m i t g w line ss → Own ends n e j line → turn j ≡ t
-      → Path (Moves (threadOf i m) turn) (Switches ends n) (control j g) w ss (control n e)
-  to View.stop o h = absurd (some o refl)
+  to : {t g j : ℕ} {w line : List ℕ} {ss : List Step} → View m i top t g w line ss → Own ends n e j line → turn j ≡ t
+      → Path (Moves (threadOf i m) turn) (Switches ends n) top (control j g) w ss (control n e)
+  to (View.stop k) o h = absurd (some o refl)
   to {t} {j = j} (View.skip p v) o h = absurd (apart i (sym (own j) ∙ ap ownerOf h ∙ p))
   to (View.move p a v) o h = Path.move (record { rule = a; right = refl; shared = refl; passed = refl; turn = sym h }) (to v o h)
-  to (View.end p View.stop) (last a b) h = rw (a, b) Path.stop
-  to (View.end p (View.skip q v)) (spare a b) h = rw (a, b, over v refl) Path.stop
+  to (View.end p (View.stop k)) (last a b) h = rw (a, b) (Path.stop k)
+  to (View.end p (View.skip q v)) (spare a b) h = let k = over v refl in rw (a, b, k .0) (Path.stop (k .1))
   to {j = j} (View.end p (View.skip q v)) (more a b o) h =
       Path.change (record { more = below o; leave = sym a; enter = sym b; passed = refl })
       (to v o (next j ∙ ap (λ u. suc (suc u)) h))
@@ -74,8 +76,8 @@ module _ {m : Model} {i : ThreadId} {turn : ℕ → ℕ} (own : (j : ℕ) → ow
   -- A step that the rules allow.
   moved : {c d : Control} {γ : ℕ} {s : Step} {x : Right} {w line : List ℕ} {ss : List Step}
       → Moves (threadOf i m) turn c γ s x d
-      → Own ends n e (c .passed) line → View m i (turn (c .passed)) (d .shared) (put x w) line ss
-      → View m i (turn (c .passed)) (c .shared) (γ ∷ w) line (s ∷ ss)
+      → Own ends n e (c .passed) line → View m i top (turn (c .passed)) (d .shared) (put x w) line ss
+      → View m i top (turn (c .passed)) (c .shared) (γ ∷ w) line (s ∷ ss)
   moved {c} {s = s} {line = []} r o v = absurd (some o refl)
   moved {c} {s = s} {line = g ∷ line} r o v =
       let same : s ≡ record { turn = turn (c .passed); rule = s .rule } =
@@ -83,12 +85,12 @@ module _ {m : Model} {i : ThreadId} {turn : ℕ → ℕ} (own : (j : ℕ) → ow
       rw same (View.move (own (c .passed)) (r .rule) (rw (r .shared, ← r .right) at v))
 
   -- A run is a view.
-  from : {c d : Control} {w line : List ℕ} {ss : List Step} → Path (Moves (threadOf i m) turn) (Switches ends n) c w ss d
-      → d ≡ control n e → Own ends n e (c .passed) line → View m i (turn (c .passed)) (c .shared) w line ss
-  from {c} Path.stop h (last a b) = ended (ap (λ (d : Control). d .shared) h ∙ sym b) (own (c .passed)) View.stop
-  from {c} Path.stop h (spare a b) =
-      ended (ap (λ (d : Control). d .shared) h ∙ sym b) (own (c .passed)) (View.skip (ap other (own (c .passed))) View.stop)
-  from {c} Path.stop h (more a b o) = absurd (omega (arith, below o, ap (λ (d : Control). d .passed) h))
+  from : {c d : Control} {w line : List ℕ} {ss : List Step} → Path (Moves (threadOf i m) turn) (Switches ends n) top c w ss d
+      → d ≡ control n e → Own ends n e (c .passed) line → View m i top (turn (c .passed)) (c .shared) w line ss
+  from {c} (Path.stop k) h (last a b) = ended (ap (λ (d : Control). d .shared) h ∙ sym b) (own (c .passed)) (View.stop k)
+  from {c} (Path.stop k) h (spare a b) =
+      ended (ap (λ (d : Control). d .shared) h ∙ sym b) (own (c .passed)) (View.skip (ap other (own (c .passed))) (View.stop k))
+  from {c} (Path.stop k) h (more a b o) = absurd (omega (arith, below o, ap (λ (d : Control). d .passed) h))
   from {line = line} (Path.move r p) h o = moved r o (rw (r .passed) at (from {line = line} p h (rw (r .passed) o)))
   from (Path.change r p) h (last a b) = absurd (omega (arith, r .more))
   from (Path.change r p) h (spare a b) = absurd (omega (arith, r .more))
@@ -130,30 +132,30 @@ owns i line n h (suc k) j e =
     (more refl refl (owns i line n h k (suc j) (omega arith)))
 
 -- A thread's view from its first turn on is a run.
-from-first : (m : Model) (i : ThreadId) (n g : ℕ) (w line : List ℕ) (ss : List Step) → length line ≡ 2 * suc n
-    → View m i (turnOf i 0) g w (drop (turnOf i 0) line) ss
-    ↔ Path (Moves (threadOf i m) (turnOf i)) (Switches (endsOf i line) n) (control 0 g) w ss (control n (lastState i n line))
-from-first m i n g w line ss h =
+from-first : (m : Model) (i : ThreadId) (top : Top) (n g : ℕ) (w line : List ℕ) (ss : List Step) → length line ≡ 2 * suc n
+    → View m i top (turnOf i 0) g w (drop (turnOf i 0) line) ss
+    ↔ Path (Moves (threadOf i m) (turnOf i)) (Switches (endsOf i line) n) top (control 0 g) w ss (control n (lastState i n line))
+from-first m i top n g w line ss h =
     let o = owns i line n h n 0 (omega arith) in
     (λ v. to (turn-own i) (turn-next i) v o refl, λ p. from (turn-own i) (turn-next i) p refl o)
 
 -- One thread's view of a full line is a run of the thread along the line's turn ends, with the same steps.
-pub line-view : (m : Model) (i : ThreadId) (n g : ℕ) (w line : List ℕ) (ss : List Step) → length line ≡ 2 * suc n
-    → View m i 0 g w line ss
-    ↔ Path (Moves (threadOf i m) (turnOf i)) (Switches (endsOf i line) n) (control 0 (firstState i g line)) w ss
+pub line-view : (m : Model) (i : ThreadId) (top : Top) (n g : ℕ) (w line : List ℕ) (ss : List Step) → length line ≡ 2 * suc n
+    → View m i top 0 g w line ss
+    ↔ Path (Moves (threadOf i m) (turnOf i)) (Switches (endsOf i line) n) top (control 0 (firstState i g line)) w ss
     (control n (lastState i n line))
-line-view m A n g w line ss h = from-first m A n g w line ss h
-line-view m B n g w [] ss h = absurd (omega arith)
-line-view m B n g w (x ∷ line) ss h =
-    let f = from-first m B n x w (x ∷ line) ss h in
+line-view m A top n g w line ss h = from-first m A top n g w line ss h
+line-view m B top n g w [] ss h = absurd (omega arith)
+line-view m B top n g w (x ∷ line) ss h =
+    let f = from-first m B top n x w (x ∷ line) ss h in
     (λ v. f .0 (skips v refl), λ p. View.skip refl (f .1 p))
 
 -- So the least steps of its runs along a full line are those of its views of it.
-pub view-cost : (m : Model) (i : ThreadId) (n : ℕ) (line : List ℕ) (cost : ℕ) → length line ≡ 2 * suc n
-    → LeastAlong (threadOf i m) i n (m .start .0) line cost ↔ ViewCost m i line cost
-view-cost m i n line cost size = (
-  least-as (λ ss. line-view m i n (m .start .0) _ line ss size .1) (λ ss. line-view m i n (m .start .0) _ line ss size .0),
-  least-as (λ ss. line-view m i n (m .start .0) _ line ss size .0) (λ ss. line-view m i n (m .start .0) _ line ss size .1),
+pub view-cost : (m : Model) (i : ThreadId) (top : Top) (n : ℕ) (line : List ℕ) (cost : ℕ) → length line ≡ 2 * suc n
+    → LeastAlong (threadOf i m) top i n (m .start .0) line cost ↔ ViewCost m i top line cost
+view-cost m i top n line cost size = (
+  least-as (λ ss. line-view m i top n (m .start .0) _ line ss size .1) (λ ss. line-view m i top n (m .start .0) _ line ss size .0),
+  least-as (λ ss. line-view m i top n (m .start .0) _ line ss size .0) (λ ss. line-view m i top n (m .start .0) _ line ss size .1),
 )
 
 -- A state of a line.

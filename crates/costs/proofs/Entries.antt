@@ -8,6 +8,8 @@ use native.Mathlib.Omega.{arith}
 use lib.ListN.{getD}
 use borrow.Author.Tests.{le-leb}
 use Rattle.model.specs.declared.ThreadId.{ThreadId}
+use Rattle.model.specs.declared.Top.{Top}
+use Rattle.summary.specs.Cells.{staysOf}
 use Rattle.summary.specs.Control.{Control, TurnEnd, dest, cellOf, entry}
 use Rattle.summary.specs.Edges.{cell, bestOf}
 use Rattle.summary.specs.Stretch.{End, pop, stay, endOf}
@@ -31,25 +33,26 @@ module _ (ends : ℕ → TurnEnd) (tab : List ℕ) where
   entry-at p g γ l d h two e =
       rw (le-leb p (endOf d .passed) h, cell-at ends (endOf d .passed - p) p (endOf d .passed) g γ (dest d) l (omega arith) (omega arith) e)
 
-  module _ (n from γ to last : ℕ) (two : n ≤ 2) (lastly : LaneTo ends n last) where
+  module _ (n from γ : ℕ) (top : Top) (to dst last : ℕ) (is : dst ≡ staysOf top + to) (two : n ≤ 2) (lastly : LaneTo ends n last) where
     -- The runs whose symbol never goes.
-    pub none-gone : (G x : ℕ) → x ≡ cell tab (cellAt n from γ (4 + to) last)
-        → x ≡ overTurns ends tab (control 0 from) γ (control n to) G 0
+    pub none-gone : (G x : ℕ) → x ≡ cell tab (cellAt n from γ dst last)
+        → x ≡ overTurns ends tab (control 0 from) γ top (control n to) G 0
     unfolding overTurns
-    none-gone G x e = rw (entry-at 0 from γ last (stay (control n to)) (omega arith) two lastly, sub-zero) e
+    none-gone G x e = rw (entry-at 0 from γ last (stay top (control n to)) (omega arith) two lastly, sub-zero, ← is) e
 
     -- One state more.
     pub one-more : (j before s old best x y new : ℕ) → j ≤ n → LaneTo ends j before
-        → x ≡ cell tab (cellAt j from γ s before) → y ≡ cell tab (cellAt (n - j) s 16 (4 + to) last)
-        → new ≡ bestOf 0 x y best → best ≡ overStates ends tab (control 0 from) γ (control n to) j s old
-        → new ≡ overStates ends tab (control 0 from) γ (control n to) j (s + 1) old
+        → x ≡ cell tab (cellAt j from γ s before) → y ≡ cell tab (cellAt (n - j) s 16 dst last)
+        → new ≡ bestOf 0 x y best → best ≡ overStates ends tab (control 0 from) γ top (control n to) j s old
+        → new ≡ overStates ends tab (control 0 from) γ top (control n to) j (s + 1) old
     unfolding overStates
     one-more j before s old best x y new h l ex ey en eb =
         rw (
           add-one s,
           entry-at 0 from γ before (pop (control j s)) (omega arith) (omega arith) l,
           sub-zero j,
-          entry-at j s 16 last (stay (control n to)) h two lastly,
+          entry-at j s 16 last (stay top (control n to)) h two lastly,
+          ← is,
           ← ex,
           ← ey,
           ← eb,
@@ -71,10 +74,11 @@ unfolding bestOf
 best-first x y old h = rw (le-leb x cap h, add-zero, zero-add)
 
 -- One number of turn ends more.
-pub turn-more : (ends : ℕ → TurnEnd) (tab : List ℕ) (c d : Control) (γ G j best new : ℕ)
-    → new ≡ overStates ends tab c γ d j G best → best ≡ overTurns ends tab c γ d G j → new ≡ overTurns ends tab c γ d G (j + 1)
+pub turn-more : (ends : ℕ → TurnEnd) (tab : List ℕ) (c d : Control) (top : Top) (γ G j best new : ℕ)
+    → new ≡ overStates ends tab c γ top d j G best → best ≡ overTurns ends tab c γ top d G j
+    → new ≡ overTurns ends tab c γ top d G (j + 1)
 unfolding overTurns
-turn-more ends tab c d γ G j best new e f = rw (add-one j, ← f) e
+turn-more ends tab c d top γ G j best new e f = rw (add-one j, ← f) e
 
 -- The lane of a turn end, from its two states.
 pub lane-made : (i : ThreadId) (line : List ℕ) (j turn o e : ℕ) → turn ≡ turnOf i j → o ≡ getD line turn 0

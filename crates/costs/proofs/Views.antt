@@ -9,10 +9,13 @@ use lib.Dec.{T}
 use lib.ListN.{length}
 use Rattle.model.specs.declared.Model.{Model}
 use Rattle.model.specs.Rules.{ruleAt, applies, put}
-use Rattle.model.specs.Runs.{Turns, stop, end, move, Marked}
+use Rattle.model.specs.Runs.{Turns, stop, end, move, Marked, EndsUnder}
+use Rattle.model.specs.declared.Top.{Top}
+use Rattle.model.specs.declared.Top.the-variants.{Any, Named}
 use Rattle.model.specs.declared.ThreadId.{ThreadId}
 use Rattle.model.specs.declared.ThreadId.the-variants.{A, B}
-use Rattle.model.specs.Walk.{other, ownerOf, threadOf, Stacks, stackOf, withStack, startStacks, Step}
+use Rattle.model.specs.Walk.{other, ownerOf, threadOf, Stacks, stackOf, withStack, startStacks, hasTop, underTops, Step}
+use Rattle.model.proofs.Tests.{both}
 use Rattle.costs.specs.View.{View, stop, skip, end, move}
 
 -- The steps of two lists in one, each list in its own order.
@@ -71,53 +74,80 @@ pub apart : (i : ThreadId) → i ≡ other i → ⊥
 apart A e = let z : _≡_ {A = ℕ} 0 1 = cc in omega arith
 apart B e = let z : _≡_ {A = ℕ} 0 1 = cc in omega arith
 
+-- What holds of both threads holds of each.
+each : {i j : ThreadId} (P : ThreadId → Type 0) → Pair i j → P i → P j → (k : ThreadId) → P k
+each P ab p q A = p
+each P ab p q B = q
+each P ba p q A = q
+each P ba p q B = p
+
+-- Each stack has the top asked of its thread.
+abbrev pub Under : (ThreadId → Top) → Stacks → Type 0
+Under ask σ = (k : ThreadId) → T (hasTop (ask k) (stackOf k σ))
+
+-- The tops that a model asks for.
+abbrev pub topsOf : Model → ThreadId → Top
+topsOf m k = threadOf k m .top
+
+-- No top at all.
+abbrev pub anyTop : ThreadId → Top
+anyTop k = Any
+
+-- Stacks under the tops that a model asks for, as a test and thread by thread.
+pub under-tops : (m : Model) (σ : Stacks) → T (underTops m σ) ↔ Under (topsOf m) σ
+under-tops m σ =
+    let tests = both (hasTop (m .a .top) (σ .a)) (hasTop (m .b .top) (σ .b)) in
+    (λ h. let t = tests .0 h in each (λ k. T (hasTop (topsOf m k) (stackOf k σ))) ab (t .0) (t .1), λ h. tests .1 (h A, h B))
+
 -- A's and B's views of one line, with n steps in all.
-pub record Views (m : Model) (t g : ℕ) (σ : Stacks) (line : List ℕ) (n : ℕ) : Type 0 where
+pub record Views (m : Model) (ask : ThreadId → Top) (t g : ℕ) (σ : Stacks) (line : List ℕ) (n : ℕ) : Type 0 where
   pub xs : List Step
   pub ys : List Step
-  pub a : View m A t g (σ .a) line xs
-  pub b : View m B t g (σ .b) line ys
+  pub a : View m A (ask A) t g (σ .a) line xs
+  pub b : View m B (ask B) t g (σ .b) line ys
   pub steps : length xs + length ys ≡ n
 
 -- The views of two threads, and the steps of both.
-record Both (m : Model) (i j : ThreadId) (t g : ℕ) (σ : Stacks) (line : List ℕ) (ss : List Step) : Type 0 where
+record Both (m : Model) (ask : ThreadId → Top) (i j : ThreadId) (t g : ℕ) (σ : Stacks) (line : List ℕ) (ss : List Step) : Type 0 where
   mine : List Step
   theirs : List Step
-  own : View m i t g (stackOf i σ) line mine
-  others : View m j t g (stackOf j σ) line theirs
+  own : View m i (ask i) t g (stackOf i σ) line mine
+  others : View m j (ask j) t g (stackOf j σ) line theirs
   merged : Merged mine theirs ss
 
--- A run with the steps of both views.
-pub record Joined (m : Model) (t g : ℕ) (σ : Stacks) (line : List ℕ) (xs ys : List Step) : Type 0 where
+-- A run with the steps of both views, to stacks under the tops of both.
+pub record Joined (m : Model) (ask : ThreadId → Top) (t g : ℕ) (σ : Stacks) (line : List ℕ) (xs ys : List Step) : Type 0 where
   pub steps : List Step
-  pub turns : Turns m t g σ line steps
+  pub stacks : Stacks
+  pub turns : Turns m t g σ line steps stacks
+  pub under : Under ask stacks
   pub merged : Merged xs ys steps
 
-module _ {m : Model} where
+-- In a turn of the other thread a view is a skip.
+pub skips : {m : Model} {j : ThreadId} {top : Top} {t g o : ℕ} {w line : List ℕ} {ss : List Step}
+    → View m j top t g w (o ∷ line) ss → ownerOf t ≡ other j → View m j top (suc t) o w line ss
+skips (skip e r) h = r
+skips {j} (end e r) h = absurd (apart j (sym e ∙ h))
+skips {j} (move e p r) h = absurd (apart j (sym e ∙ h))
+
+module _ {m : Model} (ask : ThreadId → Top) where
   -- The views in the other order.
   over : {i j : ThreadId} {t g : ℕ} {σ : Stacks} {line : List ℕ} {ss : List Step}
-      → Both m i j t g σ line ss → Both m j i t g σ line ss
+      → Both m ask i j t g σ line ss → Both m ask j i t g σ line ss
   over v =
       record { mine = v .theirs; theirs = v .mine; own = v .others; others = v .own; merged = swapped (v .merged) }
 
   -- The run of the views in the other order.
   joined-over : {t g : ℕ} {σ : Stacks} {line : List ℕ} {xs ys : List Step}
-      → Joined m t g σ line xs ys → Joined m t g σ line ys xs
-  joined-over r = record { steps = r .steps; turns = r .turns; merged = swapped (r .merged) }
-
-  -- In a turn of the other thread a view is a skip.
-  pub skips : {j : ThreadId} {t g o : ℕ} {w line : List ℕ} {ss : List Step}
-      → View m j t g w (o ∷ line) ss → ownerOf t ≡ other j → View m j (suc t) o w line ss
-  skips (skip e r) h = r
-  skips {j} (end e r) h = absurd (apart j (sym e ∙ h))
-  skips {j} (move e p r) h = absurd (apart j (sym e ∙ h))
+      → Joined m ask t g σ line xs ys → Joined m ask t g σ line ys xs
+  joined-over r = record { steps = r .steps; stacks = r .stacks; turns = r .turns; under = r .under; merged = swapped (r .merged) }
 
   -- A run is the views of the thread that has the turn and of the other one.
-  both : {i j : ThreadId} {t g : ℕ} {σ : Stacks} {line : List ℕ} {ss : List Step}
-      → Turns m t g σ line ss → Pair i j → ownerOf t ≡ i → Both m i j t g σ line ss
-  both stop p e = record { mine = []; theirs = []; own = stop; others = stop; merged = none }
-  both {t = t} (end r) p e =
-      let v = over (both r (flip p) (next-turn p t e)) in
+  parted : {i j : ThreadId} {t g : ℕ} {σ τ : Stacks} {line : List ℕ} {ss : List Step}
+      → Turns m t g σ line ss τ → Under ask τ → Pair i j → ownerOf t ≡ i → Both m ask i j t g σ line ss
+  parted {i} {j} stop u p e = record { mine = []; theirs = []; own = stop (u i); others = stop (u j); merged = none }
+  parted {t = t} (end r) u p e =
+      let v = over (parted r u (flip p) (next-turn p t e)) in
       record {
         mine = v .mine;
         theirs = v .theirs;
@@ -125,8 +155,8 @@ module _ {m : Model} where
         others = skip (others-turn p t e) (v .others);
         merged = v .merged;
       }
-  both {t = t} (move {r = n} q h r) p e =
-      let v = rw e at (both r p e) in
+  parted {t = t} (move {r = n} q h r) u p e =
+      let v = rw e at (parted r u p e) in
       record {
         mine = record { turn = t; rule = n } ∷ v .mine;
         theirs = v .theirs;
@@ -136,80 +166,91 @@ module _ {m : Model} where
       }
 
   -- A step of a run, made by the thread that has the turn.
-  moves : {i : ThreadId} {t g r top o : ℕ} {σ : Stacks} {w line : List ℕ} {ss : List Step}
+  moves : {i : ThreadId} {t g r top o : ℕ} {σ τ : Stacks} {w line : List ℕ} {ss : List Step}
       → ownerOf t ≡ i → stackOf i σ ≡ top ∷ w → T (applies (threadOf i m) r g top)
-      → Turns m t (ruleAt (threadOf i m) r .after .0) (withStack i (put (ruleAt (threadOf i m) r .right) w) σ) (o ∷ line) ss
-      → Turns m t g σ (o ∷ line) (record { turn = t; rule = r } ∷ ss)
+      → Turns m t (ruleAt (threadOf i m) r .after .0) (withStack i (put (ruleAt (threadOf i m) r .right) w) σ) (o ∷ line) ss τ
+      → Turns m t g σ (o ∷ line) (record { turn = t; rule = r } ∷ ss) τ
   moves e q h r = move (rw (← e) at q) (rw (← e) at h) (rw (← e) at r)
 
   -- A turn: its owner's steps, and then the rest of the run.
-  turn : {i j : ThreadId} {t g o : ℕ} {w line : List ℕ} {xs ys : List Step} → View m i t g w (o ∷ line) xs
+  turn : {i j : ThreadId} {t g o : ℕ} {w line : List ℕ} {xs ys : List Step} → View m i (ask i) t g w (o ∷ line) xs
       → Pair i j → (σ : Stacks) → ownerOf t ≡ i → stackOf i σ ≡ w
-      → ((τ : Stacks) (zs : List Step) → stackOf j τ ≡ stackOf j σ → View m i (suc t) o (stackOf i τ) line zs
-      → Joined m (suc t) o τ line zs ys)
-      → Joined m t g σ (o ∷ line) xs ys
+      → ((τ : Stacks) (zs : List Step) → stackOf j τ ≡ stackOf j σ → View m i (ask i) (suc t) o (stackOf i τ) line zs
+      → Joined m ask (suc t) o τ line zs ys)
+      → Joined m ask t g σ (o ∷ line) xs ys
   turn {i} (skip h v) p σ e q go = absurd (apart i (sym e ∙ h))
   turn {xs = xs} (end h v) p σ e q go =
       let r = go σ xs refl (rw q v) in
-      record { steps = r .steps; turns = end (r .turns); merged = r .merged }
+      record { steps = r .steps; stacks = r .stacks; turns = end (r .turns); under = r .under; merged = r .merged }
   turn {i} {t = t} (move {r = n} {w = w} h k v) p σ e q go =
       let τ = withStack i (put (ruleAt (threadOf i m) n .right) w) σ in
       let r = turn v p τ e (changed i _ σ) (λ ρ zs s. go ρ zs (s ∙ kept p _ σ)) in
       record {
         steps = record { turn = t; rule = n } ∷ r .steps;
+        stacks = r .stacks;
         turns = moves e q k (r .turns);
+        under = r .under;
         merged = left (r .merged);
       }
 
   -- Two views without turns are the run that stops.
-  stops : {i j : ThreadId} {t g : ℕ} {σ : Stacks} {u w : List ℕ} {xs ys : List Step}
-      → View m i t g u [] xs → View m j t g w [] ys → Joined m t g σ [] xs ys
-  stops stop stop = record { steps = []; turns = stop; merged = none }
+  stops : {i j : ThreadId} {t g : ℕ} (σ : Stacks) {u w : List ℕ} {xs ys : List Step} → Pair i j → stackOf i σ ≡ u → stackOf j σ ≡ w
+      → View m i (ask i) t g u [] xs → View m j (ask j) t g w [] ys → Joined m ask t g σ [] xs ys
+  stops σ p e f (stop x) (stop y) =
+      record { steps = []; stacks = σ; turns = stop; under = each (λ k. T (hasTop (ask k) (stackOf k σ))) p (rw e x) (rw f y); merged = none }
 
   -- The views of the thread that has the turn and of the other one are a run.
   join : (line : List ℕ) {i j : ThreadId} {t g : ℕ} (σ : Stacks) {xs ys : List Step} → Pair i j → ownerOf t ≡ i
-      → View m i t g (stackOf i σ) line xs → View m j t g (stackOf j σ) line ys → Joined m t g σ line xs ys
-  join [] σ p e v w = stops v w
+      → View m i (ask i) t g (stackOf i σ) line xs → View m j (ask j) t g (stackOf j σ) line ys → Joined m ask t g σ line xs ys
+  join [] σ p e v w = stops σ p refl refl v w
   join (o ∷ line) {t = t} σ p e v w =
       turn v p σ e refl (λ τ zs s u.
       joined-over (join line τ (flip p) (next-turn p t e) (rw s (skips w (others-turn p t e))) u))
 
   -- A run is A's and B's views, whichever has the turn.
-  split-at : (i : ThreadId) {t g : ℕ} {σ : Stacks} {line : List ℕ} {ss : List Step} → ownerOf t ≡ i
-      → Turns m t g σ line ss → Both m A B t g σ line ss
-  split-at A e r = both r ab e
-  split-at B e r = over (both r ba e)
+  split-at : (i : ThreadId) {t g : ℕ} {σ τ : Stacks} {line : List ℕ} {ss : List Step} → ownerOf t ≡ i
+      → Turns m t g σ line ss τ → Under ask τ → Both m ask A B t g σ line ss
+  split-at A e r u = parted r u ab e
+  split-at B e r u = over (parted r u ba e)
 
   -- A's and B's views are a run, whichever has the turn.
   join-at : (i : ThreadId) {t g : ℕ} {σ : Stacks} {line : List ℕ} {xs ys : List Step} → ownerOf t ≡ i
-      → View m A t g (σ .a) line xs → View m B t g (σ .b) line ys → Joined m t g σ line xs ys
+      → View m A (ask A) t g (σ .a) line xs → View m B (ask B) t g (σ .b) line ys → Joined m ask t g σ line xs ys
   join-at A {σ = σ} {line = line} e v w = join line σ ab e v w
   join-at B {σ = σ} {line = line} e v w = joined-over (join line σ ba e w v)
 
   -- A run is both threads' views of its line, and their steps are as many as the run's.
-  pub views : {t g : ℕ} {σ : Stacks} {line : List ℕ} {ss : List Step} → Turns m t g σ line ss → Views m t g σ line (length ss)
-  views {t} r =
-      let v = split-at (ownerOf t) refl r in
+  pub views : {t g : ℕ} {σ τ : Stacks} {line : List ℕ} {ss : List Step} → Turns m t g σ line ss τ → Under ask τ
+      → Views m ask t g σ line (length ss)
+  views {t} r u =
+      let v = split-at (ownerOf t) refl r u in
       record { xs = v .mine; ys = v .theirs; a = v .own; b = v .others; steps = sym (merged-length (v .merged)) }
 
   -- Two views of one line are a run, whose steps are theirs, each view's in its own order.
   pub merged-views : {t g : ℕ} {σ : Stacks} {line : List ℕ} {xs ys : List Step}
-      → View m A t g (σ .a) line xs → View m B t g (σ .b) line ys → Joined m t g σ line xs ys
+      → View m A (ask A) t g (σ .a) line xs → View m B (ask B) t g (σ .b) line ys → Joined m ask t g σ line xs ys
   merged-views {t} v w = join-at (ownerOf t) refl v w
 
-  -- Two views of one line are a run with as many steps as both.
-  pub joined : {t g : ℕ} {σ : Stacks} {line : List ℕ} {xs ys : List Step}
-      → View m A t g (σ .a) line xs → View m B t g (σ .b) line ys
-      → (ss : List Step) × Turns m t g σ line ss × (length ss ≡ length xs + length ys)
-  joined v w = let r = merged-views v w in (r .steps, r .turns, merged-length (r .merged))
+-- A run to the tops that a model asks for is both threads' views of its line to them ..
+pub under-views : {m : Model} {line : List ℕ} {ss : List Step} → EndsUnder m line ss
+    → Views m (topsOf m) 0 (m .start .0) (startStacks m) line (length ss)
+under-views {m} (σ, r, h) = views (topsOf m) r (under-tops m σ .0 h)
 
-  -- A line is marked exactly if both threads have views of it from the start.
-  pub marked-views : (line : List ℕ)
-      → Marked m line ↔ (
-      (xs : List Step) × (ys : List Step)
-      × View m A 0 (m .start .0) (m .a .first .0 ∷ []) line xs × View m B 0 (m .start .0) (m .b .first .0 ∷ []) line ys
-      )
-  marked-views line = (
-    λ r. let v = views (r .1) in (v .xs, v .ys, v .a, v .b),
-    λ v. let r = joined {σ = startStacks m} (v .2) (v .3) in (r .0, r .1),
-  )
+-- .. and two such views are a run with as many steps as both.
+pub joined-under : {m : Model} {line : List ℕ} {xs ys : List Step}
+    → View m A (m .a .top) 0 (m .start .0) (m .a .first .0 ∷ []) line xs → View m B (m .b .top) 0 (m .start .0) (m .b .first .0 ∷ []) line ys
+    → (ss : List Step) × EndsUnder m line ss × (length ss ≡ length xs + length ys)
+joined-under {m} v w =
+    let r = merged-views (topsOf m) {σ = startStacks m} v w in
+    (r .steps, (r .stacks, r .turns, under-tops m (r .stacks) .1 (r .under)), merged-length (r .merged))
+
+-- A line is marked exactly if both threads have views of it from the start, to any top.
+pub marked-views : {m : Model} (line : List ℕ)
+    → Marked m line ↔ (
+    (xs : List Step) × (ys : List Step)
+    × View m A Any 0 (m .start .0) (m .a .first .0 ∷ []) line xs × View m B Any 0 (m .start .0) (m .b .first .0 ∷ []) line ys
+    )
+marked-views {m} line = (
+  λ r. let v = views anyTop (r .2) (λ k. tt) in (v .xs, v .ys, v .a, v .b),
+  λ v. let r = merged-views anyTop {σ = startStacks m} (v .2) (v .3) in (r .steps, r .stacks, r .turns),
+)

@@ -1,10 +1,13 @@
 -- The cells that the cost of a line reads, by the lane of the last turn end inside, and the costs that are known when the
 -- lines with some first turn ends are done.
+use mathlib.Core.Bool.{cond}
 use mathlib.Core.List.{List}
 use mathlib.Core.Path.{_≡_}
 use Prim.Native.Nat.{ℕ, zero, suc, _+_, _*_, _^_, _<_}
+use lib.Dec.{eqb}
 use lib.ListN.{getD}
 use Rattle.model.specs.declared.Thread.{Thread}
+use Rattle.model.specs.declared.Top.{Top}
 use Rattle.model.specs.Lines.{digits}
 use Rattle.model.specs.declared.ThreadId.{ThreadId}
 use Rattle.summary.specs.Cells.{plain, lane, laneOf, first, second}
@@ -40,9 +43,19 @@ pub record FirstLanes (id : ThreadId) (g : ℕ) (lanes : List ℕ) : Type 0 wher
   pub lane : (v : ℕ) → v < g ^ 6 → getD lanes v 0 ≡ lineLane id g 6 v 0
 
 -- The cost of the full line whose value is v, read off a table.
-abbrev pub costOf : ThreadId → List ℕ → ℕ → ℕ → ℕ → ℕ → ℕ → ℕ
-costOf id table g n q γ v = lineCost id table g n q γ (digits g (2 * suc n) v)
+abbrev pub costOf : ThreadId → List ℕ → ℕ → ℕ → ℕ → ℕ → Top → ℕ → ℕ
+costOf id table g n q γ top v = lineCost id table g n q γ top (digits g (2 * suc n) v)
 
 -- With two turn ends: the costs of the lines whose first turn end has a lane below l.
-abbrev pub CostsTo : Thread → ThreadId → ℕ → ℕ → ℕ → List ℕ → Type 0
-CostsTo t id g q l costs = (v : ℕ) → v < g ^ 6 → lineLane id g 6 v 0 < l → LeastAt t id g 2 q v (getD costs v 0)
+abbrev pub CostsTo : Thread → Top → ThreadId → ℕ → ℕ → ℕ → List ℕ → Type 0
+CostsTo t top id g q l costs = (v : ℕ) → v < g ^ 6 → lineLane id g 6 v 0 < l → LeastAt t top id g 2 q v (getD costs v 0)
+
+-- The costs of all full lines with n turn ends, read off a table into a list.
+abbrev pub ReadOff : ThreadId → List ℕ → ℕ → ℕ → ℕ → ℕ → List ℕ → Top → Type 0
+ReadOff id table g n q γ costs top = (v : ℕ) → v < g ^ (2 * suc n) → getD costs v 0 ≡ costOf id table g n q γ top v
+
+-- The same of the lines with two turn ends whose first one has the lane l; the others keep their costs.
+abbrev pub SliceOff : ThreadId → List ℕ → ℕ → ℕ → ℕ → ℕ → List ℕ → List ℕ → Top → Type 0
+SliceOff id table g q γ l old new top =
+    (v : ℕ) → v < g ^ 6
+    → getD new v 0 ≡ cond (eqb (lineLane id g 6 v 0) l) (costOf id table g 2 q γ top v) (getD old v 0)

@@ -5,21 +5,22 @@ use mathlib.Core.Path.{_≡_}
 use Prim.Native.Nat.{ℕ, suc}
 use lib.Dec.{T}
 use Rattle.model.specs.declared.Model.{Model}
+use Rattle.model.specs.declared.Top.{Top}
 use Rattle.model.specs.Rules.{ruleAt, applies, put}
 use Rattle.model.specs.declared.ThreadId.{ThreadId}
-use Rattle.model.specs.Walk.{other, ownerOf, threadOf, Step}
+use Rattle.model.specs.Walk.{other, ownerOf, threadOf, hasTop, Step}
 
--- From a turn, a shared state and the thread's stack on: the line, and the thread's own steps.
-pub data View (m : Model) (id : ThreadId) : ℕ → ℕ → List ℕ → List ℕ → List Step → Type 0 where
+-- From a turn, a shared state and the thread's stack on, to a stack under a top that will do: the line, and the thread's own steps.
+pub data View (m : Model) (id : ThreadId) (top : Top) : ℕ → ℕ → List ℕ → List ℕ → List Step → Type 0 where
   -- the run stops after a turn
-  stop : {t q : ℕ} {w : List ℕ} → View m id t q w [] []
+  stop : {t q : ℕ} {w : List ℕ} → T (hasTop top w) → View m id top t q w [] []
   -- a turn of the other thread, which ends where the line says
-  skip : {t q o : ℕ} {w line : List ℕ} {ss : List Step} → ownerOf t ≡ other id → View m id (suc t) o w line ss
-      → View m id t q w (o ∷ line) ss
+  skip : {t q o : ℕ} {w line : List ℕ} {ss : List Step} → ownerOf t ≡ other id → View m id top (suc t) o w line ss
+      → View m id top t q w (o ∷ line) ss
   -- the thread's own turn ends here
-  end : {t q : ℕ} {w line : List ℕ} {ss : List Step} → ownerOf t ≡ id → View m id (suc t) q w line ss
-      → View m id t q w (q ∷ line) ss
+  end : {t q : ℕ} {w line : List ℕ} {ss : List Step} → ownerOf t ≡ id → View m id top (suc t) q w line ss
+      → View m id top t q w (q ∷ line) ss
   -- a step in the thread's own turn
   move : {t q r γ o : ℕ} {w line : List ℕ} {ss : List Step} → ownerOf t ≡ id → T (applies (threadOf id m) r q γ)
-      → View m id t (ruleAt (threadOf id m) r .after .0) (put (ruleAt (threadOf id m) r .right) w) (o ∷ line) ss
-      → View m id t q (γ ∷ w) (o ∷ line) (record { turn = t; rule = r } ∷ ss)
+      → View m id top t (ruleAt (threadOf id m) r .after .0) (put (ruleAt (threadOf id m) r .right) w) (o ∷ line) ss
+      → View m id top t q (γ ∷ w) (o ∷ line) (record { turn = t; rule = r } ∷ ss)

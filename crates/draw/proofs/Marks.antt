@@ -11,18 +11,19 @@ use Rattle.model.specs.Lines.{States, Line, lastOf, value, digits}
 use Rattle.model.specs.Runs.{Marked}
 use Rattle.model.specs.declared.ThreadId.{ThreadId}
 use Rattle.model.specs.declared.ThreadId.the-variants.{A, B}
-use Rattle.model.specs.Walk.{threadOf}
+use Rattle.model.specs.declared.Top.{Top}
+use Rattle.model.specs.declared.Top.the-variants.{Any}
 use Rattle.model.proofs.Positions.{value-below, length-digits, digits-value}
 use Rattle.model.proofs.Turns.{marked-padded}
 use Rattle.summary.specs.Table.{cap}
-use Rattle.costs.specs.Cost.{ViewCost, Costs, BothCosts}
+use Rattle.costs.specs.Cost.{ViewCost, CostsOf, BothCosts}
 use Rattle.costs.proofs.Along.{view-cost}
 use Rattle.costs.proofs.Views.{marked-views}
 use Rattle.draw.specs.Marks.{padded}
 
 -- A line is marked exactly if both costs are reached.
 marked-costs : (m : Model) (line : List ℕ) {a b : ℕ}
-    → ViewCost m A line a → ViewCost m B line b → Marked m line ↔ ((a ≤ cap) × (b ≤ cap))
+    → ViewCost m A Any line a → ViewCost m B Any line b → Marked m line ↔ ((a ≤ cap) × (b ≤ cap))
 marked-costs m line p q = (
   λ r. let v = marked-views line .0 r in (p .least (v .2) .0, q .least (v .3) .0),
   λ h. let v = p .some (h .0) in let w = q .some (h .1) in marked-views line .1 (v .0, w .0, v .1, w .1),
@@ -59,34 +60,32 @@ full-states {g} {k} {line} l =
     (repeated g (lastOf 0 line) (2 * k - length line) (last-low g 0 line (l .some) (l .states)))
 
 -- A list of costs has, at the value of each full line, the least steps of the thread's views of that line.
-pub line-cost : (m : Model) (i : ThreadId) (costs : List ℕ) → 1 ≤ m .k
-    → Costs (threadOf i m) i (m .g) (m .k - 1) (m .start .0) costs → (v : ℕ) → v < m .g ^ (2 * m .k)
-    → ViewCost m i (digits (m .g) (2 * m .k) v) (getD costs v 0)
-line-cost m i costs k c v h =
+pub line-cost : (m : Model) (i : ThreadId) (top : Top) (costs : List ℕ) → 1 ≤ m .k → CostsOf m i top costs
+    → (v : ℕ) → v < m .g ^ (2 * m .k) → ViewCost m i top (digits (m .g) (2 * m .k) v) (getD costs v 0)
+line-cost m i top costs k c v h =
     let n : ℕ = m .k - 1 in
     let e : 2 * suc n ≡ 2 * m .k = omega arith in
     let low : v < m .g ^ (2 * suc n) = rw e h in
-    rw e at (view-cost m i n (digits (m .g) (2 * suc n) v) _ (length-digits (m .g) (2 * suc n) v) .0 (c v low))
+    rw e at (view-cost m i top n (digits (m .g) (2 * suc n) v) _ (length-digits (m .g) (2 * suc n) v) .0 (c .along v low))
 
 -- The same at a line of 2K states.
-pub full-cost : (m : Model) (i : ThreadId) (costs : List ℕ) → 1 ≤ m .k
-    → Costs (threadOf i m) i (m .g) (m .k - 1) (m .start .0) costs
+pub full-cost : (m : Model) (i : ThreadId) (top : Top) (costs : List ℕ) → 1 ≤ m .k → CostsOf m i top costs
     → (line : List ℕ) → length line ≡ 2 * m .k → States (m .g) line
-    → (value (m .g) line < m .g ^ (2 * m .k)) × ViewCost m i line (getD costs (value (m .g) line) 0)
-full-cost m i costs k c line size states =
+    → (value (m .g) line < m .g ^ (2 * m .k)) × ViewCost m i top line (getD costs (value (m .g) line) 0)
+full-cost m i top costs k c line size states =
     let v : ℕ = value (m .g) line in
     let low : v < m .g ^ (2 * m .k) = subst (λ n. v < m .g ^ n) size (value-below (m .g) line states) in
     let same : digits (m .g) (2 * m .k) v ≡ line =
     subst (λ n. digits (m .g) n v ≡ line) size (digits-value (m .g) line states) in
-    (low, subst (λ l. ViewCost m i l (getD costs v 0)) same (line-cost m i costs k c v low))
+    (low, subst (λ l. ViewCost m i top l (getD costs v 0)) same (line-cost m i top costs k c v low))
 
 -- Both costs of the full line that stands for a line say whether the line is marked.
-pub marked-full : (m : Model) (a b : List ℕ) → 1 ≤ m .k → BothCosts m a b → (line : List ℕ) → Line (m .g) (m .k) line
+pub marked-full : (m : Model) (a b : List ℕ) → 1 ≤ m .k → BothCosts m Any Any a b → (line : List ℕ) → Line (m .g) (m .k) line
     → ((getD a (value (m .g) (padded (m .k) line)) 0 ≤ cap) × (getD b (value (m .g) (padded (m .k) line)) 0 ≤ cap)) ↔ Marked m line
 marked-full m a b k c line l =
     let full : List ℕ = padded (m .k) line in
-    let one = full-cost m A a k (c .0) full (full-length l) (full-states l) in
-    let other = full-cost m B b k (c .1) full (full-length l) (full-states l) in
+    let one = full-cost m A Any a k (c .0) full (full-length l) (full-states l) in
+    let other = full-cost m B Any b k (c .1) full (full-length l) (full-states l) in
     let padding : Marked m line ↔ Marked m full =
     rw (last-any (m .start .0) 0 line (l .some)) at (marked-padded {m = m} (2 * m .k - length line) line) in
     let e = Iff·trans padding (marked-costs m full (one .1) (other .1)) in

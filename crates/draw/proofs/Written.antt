@@ -9,6 +9,7 @@ use lib.Dec.{T}
 use lib.ListN.{length, drop, set}
 use lib.Seq.{drop-set-lt}
 use Rattle.model.specs.declared.Model.{Model}
+use Rattle.model.specs.declared.Top.the-variants.{Any}
 use Rattle.model.specs.Fits.{Fits}
 use Rattle.model.specs.Lines.{Line, bits, value, position, tableBits}
 use Rattle.model.specs.Runs.{Marked}
@@ -44,7 +45,7 @@ bit-written {bytes = bytes} w p h =
     rw place at (w .front .below (p / 8) byte (p % 8) (omega arith))
 
 -- The place of a line is marked exactly if the line is.
-drawn-marked : (m : Model) (a b : List ℕ) → 1 ≤ m .k → BothCosts m a b → (line : List ℕ) → Line (m .g) (m .k) line
+drawn-marked : (m : Model) (a b : List ℕ) → 1 ≤ m .k → BothCosts m Any Any a b → (line : List ℕ) → Line (m .g) (m .k) line
     → DrawnAt (m .g) (m .k) a b (position (m .g) line) ↔ Marked m line
 drawn-marked m a b k c line l = (
   λ d.
@@ -62,7 +63,7 @@ drawn-marked m a b k c line l = (
 )
 
 -- A table that is written whole is the model's line table.
-pub written-table : (m : Model) (a b : List ℕ) {bytes at : ℕ} {old new : List ℕ} → 1 ≤ m .k → BothCosts m a b
+pub written-table : (m : Model) (a b : List ℕ) {bytes at : ℕ} {old new : List ℕ} → 1 ≤ m .k → BothCosts m Any Any a b
     → bytes ≡ bytesFor (m .g) (m .k) → at ≡ bytesFor (m .g) (m .k)
     → Written (DrawnAt (m .g) (m .k) a b) bytes old new at → LineTable m old new
 written-table m a b {old = old} {new = new} k c e f d =

@@ -4,6 +4,7 @@ ghost use mathlib.Core.Path.{_≡_};
 ghost use Prim.Native.Nat.{_*_, _^_, _<_, _≤_};
 ghost use lib.ListN.{length};
 ghost use Rattle.model.specs.Fits.{Fits};
+ghost use Rattle.model.specs.declared.Top.the-variants.{Any};
 ghost use Rattle.model.specs.Lines.{bits, value, digits};
 ghost use Rattle.model.specs.Tables.{bytesFor, tableFits, LineTable};
 ghost use Rattle.model.specs.Valid.{storeRefusal};
@@ -25,11 +26,12 @@ pub fn refusal(m: Model, size: usize) -> u8
     if size < bytes { 7 } else { 0 }
 }
 
-// The line table of a model in range, into a store that has room for it; `a` and `b` hold both threads' costs of all full lines.
+// The line table of a model in range, into a store that has room for it; `a` and `b` hold both threads' costs of all full lines to
+// any top.
 pub fn draw(m: Model, store: &mut [u8], a: &[u64], b: &[u64])
     requires { ⌜ Fits m ⌝ ∗ ⌜ bytesFor (m .g) (m .k) ≤ length (now store) ⌝
         ∗ ⌜ (fullLines ≤ length (now a)) × (fullLines ≤ length (now b)) ⌝
-        ∗ ⌜ BothCosts m (now a) (now b) ⌝ }
+        ∗ ⌜ BothCosts m Any Any (now a) (now b) ⌝ }
     ensures { λ _. ⌜ LineTable m (now (store .entry)) (now (store .exit)) ⌝ }
 {
     let count = model::line_bits(m.g, m.k) as usize;

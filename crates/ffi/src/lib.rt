@@ -96,7 +96,7 @@ pub extern "C" fn turncheck_judge(bytes: &[u8], lines: &mut [u8], schedule: &mut
     }
 }
 
-// Reads a record and replays a schedule of its model: the last shared state, by whether it is the target.
+// Reads a record and replays a schedule of its model: the last shared state, by whether the run ends at the target.
 #[no_mangle]
 pub extern "C" fn turncheck_replay(bytes: &[u8], schedule: &[u8]) -> u64
     ensures { λ r. ⌜ ReplayCall (now (bytes .entry)) (now (schedule .entry)) r ⌝ }

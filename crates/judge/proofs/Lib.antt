@@ -2,3 +2,4 @@ pub mod Answers
 pub mod Choices
 pub mod Reaching
 pub mod Schedules
+pub mod Tops

@@ -1,42 +1,56 @@
 -- The best line's steps are the least of all runs that reach the target: such a run goes along a full line that ends in the
 -- target, its steps are both threads' views of that line, and two views of one line join to a run along it.
 use mathlib.Core.List.{List}
-use mathlib.Core.Path.{_≡_, sym, ap, subst, _∙_}
+use mathlib.Core.Path.{_≡_, refl, sym, ap, subst, _∙_}
 use Prim.Native.Nat.{ℕ, _*_, _%_, _^_, _≤_, _<_}
 use native.Mathlib.Omega.{arith}
+use lib.Dec.{T, eqb}
 use lib.ListN.{length}
 use Rattle.model.specs.declared.Model.{Model}
 use Rattle.model.specs.Fits.{Fits}
 use Rattle.model.specs.Lines.{States, lastOf, value, digits}
-use Rattle.model.specs.Runs.{Reaches, Turns}
+use Rattle.model.specs.Runs.{Reaches, EndsUnder}
 use Rattle.model.specs.Verdict.{clear, long, found, Judged}
 use Rattle.model.specs.declared.ThreadId.the-variants.{A, B}
-use Rattle.model.specs.Walk.{startStacks, Step}
+use Rattle.model.specs.Walk.{underTops, Step}
 use Rattle.model.proofs.Inside.{inside}
 use Rattle.model.proofs.Positions.{length-digits, digits-value}
 use Rattle.model.proofs.Ranges.{valid-fits}
+use Rattle.model.proofs.Tests.{both, equal}
 use Rattle.model.proofs.Turns.{legal-full}
 use Rattle.summary.specs.Table.{cap, capped, Least}
-use Rattle.costs.specs.Cost.{BothCosts}
+use Rattle.costs.specs.Cost.{TargetCosts}
 use Rattle.draw.proofs.Full.{last-digits}
 use Rattle.draw.proofs.Marks.{line-cost, full-cost}
-use Rattle.costs.proofs.Views.{views, joined}
+use Rattle.costs.proofs.Views.{under-views, joined-under}
 use Rattle.judge.specs.declared.Choice.{Choice}
 use Rattle.judge.specs.Best.{Best}
 use Rattle.model.specs.Schedules.{mostSteps}
 
+-- What a run that reaches the target has met: the target state, and the tops that are named.
+pub target-met : {m : Model} {ss : List Step} (r : Reaches m ss) → (r .shared ≡ m .target .0) × T (underTops m (r .stacks))
+target-met {m} r =
+    let t = both (eqb (r .shared) (m .target .0)) (underTops m (r .stacks)) .0 (r .target) in
+    (equal (r .shared) (m .target .0) .0 (t .0), t .1)
+
 module _ {m : Model} where
   module _ (f : Fits m) where
-    -- A run along a full line that ends in the target reaches it.
+    -- A run along a full line that ends in the target state, under the tops that are named, reaches the target.
     pub run-reaches : {v : ℕ} {ss : List Step} → v < m .g ^ (2 * m .k) → v % m .g ≡ m .target .0
-        → Turns m 0 (m .start .0) (startStacks m) (digits (m .g) (2 * m .k) v) ss → Reaches m ss
-    run-reaches {v} {ss} low ends r =
-        legal-full ss (m .target .0) (f .k .0) .1 (record {
-          line = digits (m .g) (2 * m .k) v;
-          size = length-digits (m .g) (2 * m .k) v;
-          turns = r;
-          last = last-digits (m .g) (2 * m .k) v (m .start .0) (f .g .0) (omega (arith, f .k)) low ∙ ends;
-        })
+        → EndsUnder m (digits (m .g) (2 * m .k) v) ss → Reaches m ss
+    run-reaches {v} {ss} low ends (σ, r, h) =
+        record {
+          shared = m .target .0;
+          stacks = σ;
+          leads =
+              legal-full ss (m .target .0) σ (f .k .0) .1 (record {
+                line = digits (m .g) (2 * m .k) v;
+                size = length-digits (m .g) (2 * m .k) v;
+                turns = r;
+                last = last-digits (m .g) (2 * m .k) v (m .start .0) (f .g .0) (omega (arith, f .k)) low ∙ ends;
+              });
+          target = both (eqb (m .target .0) (m .target .0)) (underTops m σ) .1 (equal (m .target .0) (m .target .0) .1 refl, h);
+        }
 
     -- The last state of a full line is the rest of its value by G.
     line-ends : (line : List ℕ) {target : ℕ} → length line ≡ 2 * m .k → States (m .g) line
@@ -48,7 +62,7 @@ module _ {m : Model} where
         let rest = last-digits (m .g) (2 * m .k) v (m .start .0) (f .g .0) (omega (arith, f .k)) low in
         sym rest ∙ (ap (lastOf (m .start .0)) same ∙ last)
 
-    module _ {a b : List ℕ} {c : Choice} (costs : BothCosts m a b)
+    module _ {a b : List ℕ} {c : Choice} (costs : TargetCosts m a b)
         (best : Best (m .g) (m .target .0) (m .g ^ (2 * m .k)) a b c) where
       -- The steps of the best line are the least of all runs that reach the target.
       pub reaching : Least (Reaches m) (c .steps)
@@ -58,23 +72,24 @@ module _ {m : Model} where
           some h =
               let s = best .some h in
               let o = s .0 in
-              let p = line-cost m A a (f .k .0) (costs .0) (c .line) (o .low) .some (o .first) in
-              let q = line-cost m B b (f .k .0) (costs .1) (c .line) (o .low) .some (o .second) in
-              let r = joined {σ = startStacks m} (p .1) (q .1) in
+              let p = line-cost m A (m .a .top) a (f .k .0) (costs .0) (c .line) (o .low) .some (o .first) in
+              let q = line-cost m B (m .b .top) b (f .k .0) (costs .1) (c .line) (o .low) .some (o .second) in
+              let r = joined-under (p .1) (q .1) in
               (r .0, run-reaches (o .low) (o .ends) (r .1), omega (arith, p .2, q .2, r .2, s .1))
 
           least : {ss : List Step} → Reaches m ss → (c .steps ≤ cap) × (c .steps ≤ length ss)
           least {ss} r =
-              let w = legal-full ss (m .target .0) (f .k .0) .0 r in
+              let t = target-met r in
+              let w = legal-full ss (r .shared) (r .stacks) (f .k .0) .0 (r .leads) in
               let states = inside (valid-fits m .1 f) (f .start) (w .turns) in
-              let v = views (w .turns) in
-              let x = full-cost m A a (f .k .0) (costs .0) (w .line) (w .size) states in
-              let y = full-cost m B b (f .k .0) (costs .1) (w .line) (w .size) states in
+              let v = under-views (r .stacks, w .turns, t .1) in
+              let x = full-cost m A (m .a .top) a (f .k .0) (costs .0) (w .line) (w .size) states in
+              let y = full-cost m B (m .b .top) b (f .k .0) (costs .1) (w .line) (w .size) states in
               let i = x .1 .least (v .a) in
               let j = y .1 .least (v .b) in
               let z = best .least (value (m .g) (w .line)) (record {
                 low = x .0;
-                ends = line-ends (w .line) (w .size) states (w .last) (x .0);
+                ends = line-ends (w .line) (w .size) states (w .last ∙ t .0) (x .0);
                 first = i .0;
                 second = j .0;
               }) in

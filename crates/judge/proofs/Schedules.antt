@@ -2,25 +2,24 @@
 -- least number of steps. So replay accepts it.
 use mathlib.Core.Bool.{true, _&&_}
 use mathlib.Core.List.{List}
-use mathlib.Core.Path.{_≡_, refl, sym, _∙_}
+use mathlib.Core.Path.{_≡_, sym, _∙_}
 use Prim.Native.Nat.{ℕ, _+_, _*_, _^_, _≤_, _<_}
 use native.Mathlib.Omega.{arith}
-use borrow.Author.Tests.{eq-eqb}
 use lib.Dec.{leb, leb→le}
 use lib.ListN.{length, take, getD}
 use Rattle.model.specs.declared.Model.{Model}
 use Rattle.model.specs.Fits.{Fits}
 use Rattle.model.specs.Lines.{digits}
-use Rattle.model.specs.Runs.{Reaches, Turns}
+use Rattle.model.specs.Runs.{Reaches, EndsUnder}
 use Rattle.model.specs.Schedules.{Stored, mostSteps, mostBytes}
 use Rattle.model.specs.Tables.{tableFits}
 use Rattle.model.specs.Valid.{Valid}
-use Rattle.model.specs.Walk.{startStacks}
+use Rattle.model.specs.Walk.{atTarget}
 use Rattle.model.specs.declared.ThreadId.the-variants.{A, B}
 use Rattle.model.proofs.Granted.{granted}
 use Rattle.model.proofs.Stores.{stored-front}
-use Rattle.model.proofs.Tests.{both}
-use Rattle.costs.specs.Cost.{BothCosts}
+use Rattle.model.proofs.Tests.{both, passed}
+use Rattle.costs.specs.Cost.{TargetCosts}
 use Rattle.costs.proofs.Digits.{power-small}
 use Rattle.draw.proofs.Marks.{line-cost}
 use Rattle.replay.specs.declared.Replayed.the-variants.{Accepted}
@@ -32,7 +31,7 @@ use Rattle.judge.specs.declared.Judgement.the-variants.{Found}
 use Rattle.judge.specs.Answer.{refusalOf, Answers}
 use Rattle.judge.specs.Best.{Best}
 use Rattle.costs.specs.Lanes.{fullLines}
-use Rattle.judge.proofs.Reaching.{run-reaches}
+use Rattle.judge.proofs.Reaching.{target-met, run-reaches}
 
 module _ {m : Model} (f : Fits m) {a b : List ℕ} {c : Choice}
     (best : Best (m .g) (m .target .0) (m .g ^ (2 * m .k)) a b c) (most : c .steps ≤ mostSteps) where
@@ -47,19 +46,19 @@ module _ {m : Model} (f : Fits m) {a b : List ℕ} {c : Choice}
   best-steps = omega (arith, best .some (omega arith) .1)
 
   -- What the writer asks for.
-  pub best-chosen : BothCosts m a b → Chosen m (c .line) (getD a (c .line) 0) (getD b (c .line) 0)
+  pub best-chosen : TargetCosts m a b → Chosen m (c .line) (getD a (c .line) 0) (getD b (c .line) 0)
   best-chosen costs =
       let o = best .some (omega arith) .0 in
       record {
         low = o .low;
-        a = line-cost m A a (f .k .0) (costs .0) (c .line) (o .low);
-        b = line-cost m B b (f .k .0) (costs .1) (c .line) (o .low);
+        a = line-cost m A (m .a .top) a (f .k .0) (costs .0) (c .line) (o .low);
+        b = line-cost m B (m .b .top) b (f .k .0) (costs .1) (c .line) (o .low);
         most = omega (arith, best-steps);
       }
 
   -- What it has written.
   pub best-scheduled : {n : ℕ} {old new : List ℕ} → n ≡ getD a (c .line) 0 + getD b (c .line) 0
-      → Stored (Turns m 0 (m .start .0) (startStacks m) (digits (m .g) (2 * m .k) (c .line))) n 0 old new
+      → Stored (EndsUnder m (digits (m .g) (2 * m .k) (c .line))) n 0 old new
       → Stored (Reaches m) (c .steps) 0 old new
   best-scheduled e w =
       let o = best .some (omega arith) .0 in
@@ -79,8 +78,9 @@ replayed m {n} {old} {new} v most room s =
       steps = s .steps;
       written = stored-front s room;
       most = omega (arith, s .count);
-      leads = s .run;
-      target = sym (eq-eqb (m .target .0) (m .target .0) refl);
+      stacks = s .run .stacks;
+      leads = rw (target-met (s .run) .0) at (s .run .leads);
+      target = sym (passed (atTarget m (m .target .0) (s .run .stacks)) (rw (target-met (s .run) .0) at (s .run .target)));
     })
 
 -- Where the judge says Found n, replay accepts the first 2n bytes of the schedule store, and says that they reach the target.

@@ -1,10 +1,14 @@
 // The verdict on a model, over runs of any length and depth.
+ghost use mathlib.Core.Bool.{false};
+ghost use mathlib.Core.Path.{_≡_};
 ghost use Prim.Native.Nat.{_*_, _^_, _≤_};
 ghost use lib.ListN.{length};
+ghost use Rattle.model.specs.declared.Top.the-variants.{Any};
 ghost use Rattle.model.specs.Fits.{Fits};
-ghost use Rattle.model.specs.Tables.{bytesFor, LineTable};
+ghost use Rattle.model.specs.Tables.{bytesFor};
 ghost use Rattle.model.specs.Schedules.{mostBytes};
-ghost use Rattle.costs.specs.Cost.{BothCosts};
+ghost use Rattle.summary.specs.Cells.{size};
+ghost use Rattle.costs.specs.Cost.{BothCosts, FirstNamed, SecondNamed, TargetCosts};
 ghost use Rattle.costs.specs.Lanes.{fullLines};
 ghost use Rattle.judge.specs.Answer.{refusalOf, Answers, LeavesLines, LeavesSchedule};
 ghost use Rattle.judge.specs.Best.{Best};
@@ -14,7 +18,9 @@ mod choose;
 use costs::LINES;
 use model::MOST_BYTES;
 use model::Model;
+use model::Top;
 use summary::CAP;
+use summary::cells::SIZE;
 
 // A verdict, Found with the number of steps of a shortest run; or a refusal's number.
 pub enum Judgement {
@@ -48,36 +54,125 @@ pub fn judge(m: Model, lines: &mut [u8], schedule: &mut [u8]) -> Judgement
     verdict(m, lines, schedule)
 }
 
-// The verdict on a model in range, where the stores have room.
+// The verdict on a model in range, where the stores have room. The table is here for both ways, so that the stack holds it once.
 fn verdict(m: Model, lines: &mut [u8], schedule: &mut [u8]) -> Judgement
     requires { ⌜ Fits m ⌝ ∗ ⌜ bytesFor (m .g) (m .k) ≤ length (now lines) ⌝ ∗ ⌜ mostBytes ≤ length (now schedule) ⌝ }
     ensures answer { λ r. ⌜ Answers m 0 r ⌝ }
     ensures table { λ r. ⌜ LeavesLines m r (now (lines .entry)) (now (lines .exit)) ⌝ }
     ensures witness { λ r. ⌜ LeavesSchedule m r (now (schedule .entry)) (now (schedule .exit)) ⌝ }
 {
-    let mut a = [0u64; LINES];
-    let mut b = [0u64; LINES];
-    costs::both(m, &mut a, &mut b);
-    let best = search(m, lines, &a, &b);
-    told(m, best, &a, &b, schedule)
+    let mut table = [0u64; SIZE];
+    let first = m.a;
+    let top_a = first.top;
+    if names(top_a) {
+        return to_tops(m, &mut table, lines, schedule);
+    }
+    let second = m.b;
+    let top_b = second.top;
+    if names(top_b) {
+        return to_tops(m, &mut table, lines, schedule);
+    }
+    to_any(m, &mut table, lines, schedule)
 }
 
-// The line table and the best line to the target, from both threads' costs of all full lines.
-fn search(m: Model, lines: &mut [u8], a: &[u64], b: &[u64]) -> Choice
-    requires { ⌜ Fits m ⌝ ∗ ⌜ bytesFor (m .g) (m .k) ≤ length (now lines) ⌝
-        ∗ ⌜ (fullLines ≤ length (now a)) × (fullLines ≤ length (now b)) ⌝
-        ∗ ⌜ BothCosts m (now a) (now b) ⌝ }
-    ensures table { λ r. ⌜ LineTable m (now (lines .entry)) (now (lines .exit)) ⌝ }
-    ensures best { λ r. ⌜ Best (m .g) (m .target .0) (m .g ^ (2 * m .k)) (now (a .entry)) (now (b .entry)) r ⌝ }
+// Whether a symbol is named.
+fn names(top: Top) -> bool
+    ensures { λ r. ⌜ (r ≡ false → top ≡ Any) ⌝ }
 {
-    draw::draw(m, lines, a, b);
-    choose::choose(m.g as usize, m.k as usize, m.target.0 as usize, a, b)
+    match top {
+        Top::Any => false,
+        Top::Named(_) => true,
+    }
+}
+
+// The verdict where no top is named: the costs to any top serve for the line table and for the target.
+fn to_any(m: Model, table: &mut [u64], lines: &mut [u8], schedule: &mut [u8]) -> Judgement
+    requires { ⌜ Fits m ⌝ ∗ ⌜ length (now table) ≡ size ⌝ ∗ ⌜ bytesFor (m .g) (m .k) ≤ length (now lines) ⌝
+        ∗ ⌜ mostBytes ≤ length (now schedule) ⌝
+        ∗ ⌜ (m .a .top ≡ Any) × (m .b .top ≡ Any) ⌝ }
+    ensures answer { λ r. ⌜ Answers m 0 r ⌝ }
+    ensures table { λ r. ⌜ LeavesLines m r (now (lines .entry)) (now (lines .exit)) ⌝ }
+    ensures witness { λ r. ⌜ LeavesSchedule m r (now (schedule .entry)) (now (schedule .exit)) ⌝ }
+{
+    let mut a = [0u64; LINES];
+    let mut b = [0u64; LINES];
+    costs::lines(m, table, &mut a, &mut b);
+    draw::draw(m, lines, &a, &b);
+    search(m, &a, &b, schedule)
+}
+
+// The verdict where a top may be named: the costs to any top give the line table, those to the tops that are named the verdict.
+fn to_tops(m: Model, table: &mut [u64], lines: &mut [u8], schedule: &mut [u8]) -> Judgement
+    requires { ⌜ Fits m ⌝ ∗ ⌜ length (now table) ≡ size ⌝ ∗ ⌜ bytesFor (m .g) (m .k) ≤ length (now lines) ⌝
+        ∗ ⌜ mostBytes ≤ length (now schedule) ⌝ }
+    ensures answer { λ r. ⌜ Answers m 0 r ⌝ }
+    ensures table { λ r. ⌜ LeavesLines m r (now (lines .entry)) (now (lines .exit)) ⌝ }
+    ensures witness { λ r. ⌜ LeavesSchedule m r (now (schedule .entry)) (now (schedule .exit)) ⌝ }
+{
+    let mut a = [0u64; LINES];
+    let mut b = [0u64; LINES];
+    let mut x = [0u64; LINES];
+    let mut y = [0u64; LINES];
+    costs::both(m, table, &mut a, &mut b, &mut x, &mut y);
+    draw::draw(m, lines, &a, &b);
+    with_first(m, &a, &b, &x, &y, schedule)
+}
+
+// The verdict, where A's costs are in x if it names a top.
+fn with_first(
+    m: Model,
+    a: &[u64],
+    b: &[u64],
+    x: &[u64],
+    y: &[u64],
+    schedule: &mut [u8],
+) -> Judgement
+    requires { ⌜ Fits m ⌝ ∗ ⌜
+        (fullLines ≤ length (now a)) × (fullLines ≤ length (now b)) × (fullLines ≤ length (now x)) × (fullLines ≤ length (now y))
+        × (mostBytes ≤ length (now schedule))
+        ⌝ ∗ ⌜ BothCosts m Any Any (now a) (now b) ⌝ ∗ ⌜ FirstNamed m (now x) ⌝ ∗ ⌜ SecondNamed m (now y) ⌝ }
+    ensures answer { λ r. ⌜ Answers m 0 r ⌝ }
+    ensures witness { λ r. ⌜ LeavesSchedule m r (now (schedule .entry)) (now (schedule .exit)) ⌝ }
+{
+    let first = m.a;
+    let top = first.top;
+    match top {
+        Top::Any => with_second(m, a, b, y, schedule),
+        Top::Named(_) => with_second(m, x, b, y, schedule),
+    }
+}
+
+// The verdict, where B's costs are in y if it names a top.
+fn with_second(m: Model, a: &[u64], b: &[u64], y: &[u64], schedule: &mut [u8]) -> Judgement
+    requires { ⌜ Fits m ⌝ ∗ ⌜
+        (fullLines ≤ length (now a)) × (fullLines ≤ length (now b)) × (fullLines ≤ length (now y)) × (mostBytes ≤ length (now schedule))
+        ⌝ ∗ ⌜ BothCosts m (m .a .top) Any (now a) (now b) ⌝ ∗ ⌜ SecondNamed m (now y) ⌝ }
+    ensures answer { λ r. ⌜ Answers m 0 r ⌝ }
+    ensures witness { λ r. ⌜ LeavesSchedule m r (now (schedule .entry)) (now (schedule .exit)) ⌝ }
+{
+    let second = m.b;
+    let top = second.top;
+    match top {
+        Top::Any => search(m, a, b, schedule),
+        Top::Named(_) => search(m, a, y, schedule),
+    }
+}
+
+// The verdict from both threads' costs of all full lines to the target.
+fn search(m: Model, a: &[u64], b: &[u64], schedule: &mut [u8]) -> Judgement
+    requires { ⌜ Fits m ⌝ ∗ ⌜ (fullLines ≤ length (now a)) × (fullLines ≤ length (now b)) × (mostBytes ≤ length (now schedule)) ⌝
+        ∗ ⌜ TargetCosts m (now a) (now b) ⌝ }
+    ensures answer { λ r. ⌜ Answers m 0 r ⌝ }
+    ensures witness { λ r. ⌜ LeavesSchedule m r (now (schedule .entry)) (now (schedule .exit)) ⌝ }
+{
+    let best = choose::choose(m.g as usize, m.k as usize, m.target.0 as usize, a, b);
+    told(m, best, a, b, schedule)
 }
 
 // The verdict that the best line stands for, and its schedule where it is short enough.
 fn told(m: Model, best: Choice, a: &[u64], b: &[u64], schedule: &mut [u8]) -> Judgement
     requires { ⌜ Fits m ⌝ ∗ ⌜ (fullLines ≤ length (now a)) × (fullLines ≤ length (now b)) × (mostBytes ≤ length (now schedule)) ⌝
-        ∗ ⌜ BothCosts m (now a) (now b) ⌝ ∗ ⌜ Best (m .g) (m .target .0) (m .g ^ (2 * m .k)) (now a) (now b) best ⌝ }
+        ∗ ⌜ TargetCosts m (now a) (now b) ⌝ ∗ ⌜ Best (m .g) (m .target .0) (m .g ^ (2 * m .k)) (now a) (now b) best ⌝ }
     ensures answer { λ r. ⌜ Answers m 0 r ⌝ }
     ensures witness { λ r. ⌜ LeavesSchedule m r (now (schedule .entry)) (now (schedule .exit)) ⌝ }
 {

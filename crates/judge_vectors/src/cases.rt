@@ -1,7 +1,9 @@
 // Comparisons of a judgement with what is known of a model. Every store is filled with 170 beforehand.
 use judge::Judgement;
 use model::Model;
+use model::Symbol;
 use model::Thread;
+use model::Top;
 use replay::Replayed;
 
 // The numbers of the verdicts in the files of cases.
@@ -140,39 +142,44 @@ pub fn refuses(m: Model, number: u8) -> bool {
     vectors::filled(&schedule, 170)
 }
 
-// A thread with another count of rules.
-fn counting(t: Thread, count: usize) -> Thread {
-    let first = t.first;
-    let rules = t.rules;
-    Thread {
-        first: first,
-        count: count,
-        rules: rules,
-    }
-}
-
 // A model with another count of A's rules.
 pub fn with_a(m: Model, count: usize) -> Model {
-    let a = m.a;
-    with(m, counting(a, count), m.b)
+    let mut other = m;
+    other.a.count = count;
+    other
 }
 
 // A model with another count of B's rules.
 pub fn with_b(m: Model, count: usize) -> Model {
-    let b = m.b;
-    with(m, m.a, counting(b, count))
+    let mut other = m;
+    other.b.count = count;
+    other
 }
 
-// A model with other threads.
-fn with(m: Model, a: Thread, b: Thread) -> Model {
-    let start = m.start;
-    let target = m.target;
-    Model {
-        g: m.g,
-        k: m.k,
-        start: start,
-        target: target,
-        a: a,
-        b: b,
+// A thread whose top is asked to be this symbol.
+fn topped(t: Thread, top: u8) -> Thread {
+    let first = t.first;
+    let rules = t.rules;
+    Thread {
+        first,
+        top: Top::Named(Symbol(top)),
+        count: t.count,
+        rules,
     }
+}
+
+// A model with this top of A.
+pub fn with_top_a(m: Model, top: u8) -> Model {
+    let a = m.a;
+    let mut other = m;
+    other.a = topped(a, top);
+    other
+}
+
+// A model with this top of B.
+pub fn with_top_b(m: Model, top: u8) -> Model {
+    let b = m.b;
+    let mut other = m;
+    other.b = topped(b, top);
+    other
 }

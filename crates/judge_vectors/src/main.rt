@@ -1,5 +1,5 @@
-// Judges document 01's models, the longest and deepest ones we know and files of random ones, and compares: verdict, steps, line
-// table, and the schedule, which is replayed.
+// Judges document 01's models, some with tops, the longest and deepest ones we know and files of random ones, and compares: verdict,
+// steps, line table, and the schedule, which is replayed.
 use vectors::Tally;
 
 mod cases;
@@ -7,6 +7,11 @@ mod cases;
 // The model that a record holds is Clear.
 fn clear(bytes: &[u8]) -> bool {
     cases::agrees(bytes, cases::CLEAR, 0, &[])
+}
+
+// It is Found in so many steps.
+fn found(bytes: &[u8], steps: usize) -> bool {
+    cases::agrees(bytes, cases::FOUND, steps, &[])
 }
 
 // The models of document 01. Without its first rule, Two's thread A has an empty stack after its step.
@@ -21,10 +26,30 @@ fn document() -> Tally {
     t = t.counted(clear(b"\xCA\x01\x03\x02\x01\x00\x01\x01\x20\x03\x01\x03\x10\x02\x00"));
     t = t.counted(clear(b"\xC8\x03\x02\x01\x00\x01\x01\x20\x03\x01\x03\x10\x02\x00"));
     t = t.counted(clear(b"\xCA\x03\x03\x02\x01\x00\x01\x01\x20\x03\x01\x03\x10\x02\x00"));
-    t.counted(cases::agrees(b"\x08\x00", cases::FOUND, 0, &[]))
+    t.counted(found(b"\x08\x00", 0))
 }
 
-// Stores of just the size needed, and one byte less; models that no record holds: no states at all, and a thread with 65 rules.
+// Tops: the start has it or not; One's A has an empty stack after its step, which moves no line; Two's A needs one more push, and B none; a
+// top that removing what lies above it brings.
+fn tops() -> Tally {
+    let one = *b"\x4B\x02\x01\x81\x01\x00\x01\x01\x00\x01";
+    let mut t = Tally::new();
+    t = t.counted(found(b"\x08\x80\x01\x00", 0));
+    t = t.counted(clear(b"\x08\x80\x01\x01"));
+    t = t.counted(cases::agrees(&one, cases::CLEAR, 0, b"\x27"));
+    t = t.counted(found(
+        b"\xC8\x83\x01\x00\x03\x06\x00\x00\x00\x01\x00\x01\x01\x20\x03\x01\x03\x10\x02\x00",
+        5,
+    ));
+    t = t.counted(found(
+        b"\xC8\x83\x02\x00\x03\x06\x00\x00\x00\x01\x00\x01\x01\x20\x03\x01\x03\x10\x02\x00",
+        4,
+    ));
+    t.counted(found(b"\x88\x81\x02\x00\x02\x07\x00\x01\x01\x00\x00\x11", 2))
+}
+
+// Stores of just the size needed, and one byte less; models that no record holds: no states at all, a thread
+// with 65 rules, and a top that is no symbol.
 fn limits() -> Tally {
     let two = vectors::TWO;
     let once = vectors::TWO_ONCE;
@@ -46,6 +71,8 @@ fn limits() -> Tally {
     let m = reading.model;
     t = t.counted(cases::refuses(cases::with_a(m, 65), 4));
     t = t.counted(cases::refuses(cases::with_b(m, 65), 4));
+    t = t.counted(cases::refuses(cases::with_top_a(m, 16), 3));
+    t = t.counted(cases::refuses(cases::with_top_b(m, 16), 3));
     let empty = record::read(&[]);
     t.counted(cases::refuses(empty.model, 3))
 }
@@ -79,9 +106,11 @@ fn file(name: &[u8], store: &mut [u8]) {
     corpus(&store[0..n]).report(name);
 }
 
-// The files: the models of bindings/cases.txt that double their steps, nest deepest and take longest; then random ones.
+// The files: the models of bindings/cases.txt with tops, and those that double their steps, nest deepest and take longest; then random
+// ones.
 fn files() {
     let mut store = [0u8; 370000];
+    file(b"tops.bin", &mut store);
     file(b"deep.bin", &mut store);
     file(b"verdicts-1.bin", &mut store);
     file(b"verdicts-2.bin", &mut store);
@@ -89,6 +118,7 @@ fn files() {
 
 fn main() {
     document().report(b"document 01");
+    tops().report(b"tops");
     limits().report(b"stores and counts");
     files();
 }

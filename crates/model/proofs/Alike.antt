@@ -24,7 +24,7 @@ use Rattle.model.proofs.Ranges.{valid-fits}
 -- Sameness goes both ways.
 back-thread : {t u : Thread} → SameThread t u → SameThread u t
 back-thread s =
-    record { first = sym (s .first); count = sym (s .count); rules = λ r h. sym (s .rules r (rw (s .count) h)) }
+    record { first = sym (s .first); top = sym (s .top); count = sym (s .count); rules = λ r h. sym (s .rules r (rw (s .count) h)) }
 
 pub back : {m n : Model} → Same m n → Same n m
 back s =
@@ -45,6 +45,7 @@ fits : {g h : ℕ} {t u : Thread} → g ≡ h → SameThread t u → ThreadFits 
 fits {g} {h} {t} {u} e s f =
     record {
       first = rw (← s .first) (f .first);
+      top = rw (← s .top) (f .top);
       count = rw (← s .count) (f .count);
       rules = λ r k. let j : r < t .count = rw (s .count) k in rw (← e, ← s .rules r j) (f .rules r j);
     }
@@ -85,20 +86,26 @@ same-walk {m} {n} s (x ∷ xs) c =
 same-start : {m n : Model} → Same m n → startOf m ≡ startOf n
 same-start s = rw (s .start, s .a .first, s .b .first)
 
--- A schedule leads to the same shared state.
-pub same-leads : {m n : Model} → Same m n → {ss : List Step} {g : ℕ} → Leads m ss g → Leads n ss g
+-- A schedule leads to the same shared state and stacks.
+pub same-leads : {m n : Model} → Same m n → {ss : List Step} {g : ℕ} {σ : Stacks} → Leads m ss g σ → Leads n ss g σ
 same-leads {m} {n} s {ss} l =
-    record { last = l .last; walked = rw (← same-start s, ← same-walk s ss (startOf m)) (l .walked); ends = l .ends }
+    record { turn = l .turn; walked = rw (← same-start s, ← same-walk s ss (startOf m)) (l .walked) }
 
 same-reaches : {m n : Model} → Same m n → {ss : List Step} → Reaches m ss → Reaches n ss
-same-reaches s {ss} l = rw (ap (λ (t : Shared). t .0) (s .target)) at (same-leads s l)
+same-reaches s {ss} r =
+    record {
+      shared = r .shared;
+      stacks = r .stacks;
+      leads = same-leads s (r .leads);
+      target = rw (s .target, s .a .top, s .b .top) at (r .target);
+    }
 
 same-least : {m n : Model} → Same m n → {k : ℕ} → AtLeast m k → AtLeast n k
 same-least s h ss l = h ss (same-reaches (back s) l)
 
 -- A run of one is a run of the other: a rule that applies is in the list, and there it is the same one.
-same-turns : {m n : Model} → Same m n → {t q : ℕ} {σ : Stacks} {line : List ℕ} {ss : List Step}
-    → Turns m t q σ line ss → Turns n t q σ line ss
+same-turns : {m n : Model} → Same m n → {t q : ℕ} {σ τ : Stacks} {line : List ℕ} {ss : List Step}
+    → Turns m t q σ line ss τ → Turns n t q σ line ss τ
 same-turns s stop = stop
 same-turns s (end r) = end (same-turns s r)
 same-turns {m} {n} s {t} {q} (move {r = r} {top = top} e p rest) =
@@ -111,7 +118,7 @@ same-turns {m} {n} s {t} {q} (move {r = r} {top = top} e p rest) =
 
 -- Models that are the same have the same marked lines.
 pub same-marked : {m n : Model} → Same m n → {line : List ℕ} → Marked m line → Marked n line
-same-marked s r = (r .0, rw (s .start, s .a .first, s .b .first) at (same-turns s (r .1)))
+same-marked s r = (r .0, r .1, rw (s .start, s .a .first, s .b .first) at (same-turns s (r .2)))
 
 -- A verdict of one is a verdict of the other.
 pub same-judged : {m n : Model} → Same m n → (v : Verdict) → Judged m v → Judged n v

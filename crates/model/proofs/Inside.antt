@@ -39,8 +39,8 @@ fits-of f A = f .a
 fits-of f B = f .b
 
 -- The line of a run has only states below G.
-pub inside : {m : Model} → Valid m → {t g : ℕ} {σ : Stacks} {line : List ℕ} {ss : List Step}
-    → g < m .g → Turns m t g σ line ss → States (m .g) line
+pub inside : {m : Model} → Valid m → {t g : ℕ} {σ τ : Stacks} {line : List ℕ} {ss : List Step}
+    → g < m .g → Turns m t g σ line ss τ → States (m .g) line
 inside v h stop = tt
 inside v h (end r) = (h, inside v h r)
 inside {m} v {t = t} {g = g} h (move {r = r} {top = top} e p rest) =
@@ -50,4 +50,4 @@ inside {m} v {t = t} {g = g} h (move {r = r} {top = top} e p rest) =
 -- A marked line of one to 2K states is a line of the table.
 pub marked-line : {m : Model} → Valid m → {line : List ℕ} → 0 < length line → length line ≤ 2 * m .k
     → Marked m line → Line (m .g) (m .k) line
-marked-line {m} v h k r = record { some = h; most = k; states = inside v (valid-fits m .0 v .start) (r .1) }
+marked-line {m} v h k r = record { some = h; most = k; states = inside v (valid-fits m .0 v .start) (r .2) }

@@ -14,11 +14,13 @@ use Rattle.model.specs.declared.Right.{Right}
 use Rattle.model.specs.declared.Right.the-variants.{Remove, Swap, Push}
 use Rattle.model.specs.declared.Rule.{Rule}
 use Rattle.model.specs.declared.Thread.{Thread}
-use Rattle.model.specs.Fits.{RightFits, RuleFits, Fits}
+use Rattle.model.specs.declared.Top.{Top}
+use Rattle.model.specs.declared.Top.the-variants.{Any, Named}
+use Rattle.model.specs.Fits.{RightFits, RuleFits, TopFits, Fits}
 use Rattle.model.specs.Results.{refuse, firstOf}
 use Rattle.model.specs.Rules.{ruleAt, zeroRule}
 use Rattle.model.proofs.Tests.{tests}
-use Rattle.model.specs.Valid.{headFault, symbolFault, rightFault, ruleFault, threadFault, faultOf, Valid}
+use Rattle.model.specs.Valid.{rangeFault, topFault, headFault, symbolFault, rightFault, ruleFault, threadFault, faultOf, Valid}
 
 -- No fault of checks in order is no fault of the first and none of the others.
 none : (n : ℕ) (ns : List ℕ) → (firstOf (n ∷ ns) ≡ 0) ↔ ((n ≡ 0) × (firstOf ns ≡ 0))
@@ -52,6 +54,11 @@ within f d e (suc n) (x ∷ xs) =
       λ h. first .1 (h 0 (omega arith), rest .1 (λ i k. h (suc i) (omega arith))),
     )
 
+top : (x : Top) → (topFault x ≡ 0) ↔ TopFits x
+unfolding topFault
+top Any = (λ h. tt, λ h. refl)
+top (Named s) = simp checks Iff·rfl
+
 right : (x : Right) → (rightFault x ≡ 0) ↔ RightFits x
 unfolding rightFault symbolFault firstOf
 right Remove = (λ h. tt, λ h. refl)
@@ -80,24 +87,26 @@ thread g p t =
 
 -- A model is valid exactly if every used place of it is in range.
 pub valid-fits : (m : Model) → Valid m ↔ Fits m
-unfolding faultOf headFault firstOf
+unfolding faultOf headFault rangeFault firstOf
 valid-fits m = (
   λ h.
-      let z = simp checks at h in
-      let head = z .0 in
-      let g = head .0 in
+      let z = simp (checks, top) at h in
+      let range = z .0 .0 in
+      let head = z .0 .1 in
+      let g = range .0 in
       let a = thread (m .g) (g .0) (m .a) .0 (z .1 .0) in
       let b = thread (m .g) (g .0) (m .b) .0 (z .1 .1 .0) in
       record {
         g = g;
-        k = head .1 .0;
-        start = head .1 .1 .0;
-        target = head .1 .1 .1 .0;
-        a = record { first = head .1 .1 .1 .1 .0; count = a .0; rules = a .1 };
-        b = record { first = head .1 .1 .1 .1 .1 .0; count = b .0; rules = b .1 };
+        k = range .1 .0;
+        start = range .1 .1 .0;
+        target = range .1 .1 .1 .0;
+        a = record { first = head .1 .1 .0; top = head .0; count = a .0; rules = a .1 };
+        b = record { first = head .1 .1 .1 .0; top = head .1 .0; count = b .0; rules = b .1 };
       },
   λ f.
       let a = thread (m .g) (f .g .0) (m .a) .1 (f .a .count, f .a .rules) in
       let b = thread (m .g) (f .g .0) (m .b) .1 (f .b .count, f .b .rules) in
-      simp checks ((f .g, (f .k, (f .start, (f .target, (f .a .first, (f .b .first, refl)))))), (a, (b, refl))),
+      simp (checks, top)
+      (((f .g, (f .k, (f .start, (f .target, refl)))), (f .a .top, (f .b .top, (f .a .first, (f .b .first, refl))))), (a, (b, refl))),
 )

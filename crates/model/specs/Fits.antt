@@ -5,6 +5,8 @@ use Rattle.model.specs.declared.Right.{Right}
 use Rattle.model.specs.declared.Right.the-variants.{Remove, Swap, Push}
 use Rattle.model.specs.declared.Rule.{Rule}
 use Rattle.model.specs.declared.Thread.{Thread}
+use Rattle.model.specs.declared.Top.{Top}
+use Rattle.model.specs.declared.Top.the-variants.{Any, Named}
 use Rattle.model.specs.Rules.{ruleAt}
 
 -- The symbols of a right side are at most 15.
@@ -20,9 +22,15 @@ pub record RuleFits (g : ℕ) (r : Rule) : Type 0 where
   pub next : r .after .0 < g
   pub symbols : RightFits (r .right)
 
--- A thread's first symbol, its count and each of its rules are in range.
+-- A top that is named is at most 15.
+abbrev pub TopFits : Top → Type 0
+TopFits Any = Unit {0}
+TopFits (Named s) = s .0 ≤ 15
+
+-- A thread's first symbol, its top, its count and each of its rules are in range.
 pub record ThreadFits (g : ℕ) (t : Thread) : Type 0 where
   pub first : t .first .0 ≤ 15
+  pub top : TopFits (t .top)
   pub count : t .count ≤ 64
   pub rules : (r : ℕ) → r < t .count → RuleFits g (ruleAt t r)
 

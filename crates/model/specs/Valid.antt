@@ -11,16 +11,29 @@ use Rattle.model.specs.declared.Right.the-variants.{Remove, Swap, Push}
 use Rattle.model.specs.declared.Rule.{Rule}
 use Rattle.model.specs.declared.Symbol.{Symbol}
 use Rattle.model.specs.declared.Thread.{Thread}
+use Rattle.model.specs.declared.Top.{Top}
+use Rattle.model.specs.declared.Top.the-variants.{Any, Named}
 use Rattle.model.specs.Results.{refuse, firstOf}
 use Rattle.model.specs.Rules.{ruleAt}
 
--- The head fields in the record's bit order: G, K, start, target, the first symbols of A and of B.
+-- A top that is named is a symbol, so at most 15.
+unfoldable pub topFault : Top → ℕ
+topFault Any = 0
+topFault (Named s) = refuse 3 (leb (s .0) 15)
+
+-- G, K, and the start and target states.
+unfoldable pub rangeFault : Model → ℕ
+rangeFault m =
+    firstOf
+    (refuse 3 (leb 1 (m .g) && leb (m .g) 4) ∷ refuse 3 (leb 1 (m .k) && leb (m .k) 3) ∷
+    refuse 3 (ltb (m .start .0) (m .g)) ∷ refuse 3 (ltb (m .target .0) (m .g)) ∷ [])
+
+-- The head fields in the record's order: those, then the tops of A and of B, then their first symbols.
 unfoldable pub headFault : Model → ℕ
 headFault m =
     firstOf
-    (refuse 3 (leb 1 (m .g) && leb (m .g) 4) ∷ refuse 3 (leb 1 (m .k) && leb (m .k) 3) ∷
-    refuse 3 (ltb (m .start .0) (m .g)) ∷ refuse 3 (ltb (m .target .0) (m .g)) ∷
-    refuse 3 (leb (m .a .first .0) 15) ∷ refuse 3 (leb (m .b .first .0) 15) ∷ [])
+    (rangeFault m ∷ topFault (m .a .top) ∷ topFault (m .b .top) ∷ refuse 3 (leb (m .a .first .0) 15) ∷
+    refuse 3 (leb (m .b .first .0) 15) ∷ [])
 
 -- A symbol of a rule is at most 15.
 unfoldable pub symbolFault : Symbol → ℕ
@@ -60,6 +73,7 @@ Valid m = faultOf m ≡ 0
 -- Two threads agree in every place that is used.
 pub record SameThread (t u : Thread) : Type 0 where
   pub first : t .first ≡ u .first
+  pub top : t .top ≡ u .top
   pub count : t .count ≡ u .count
   pub rules : (r : ℕ) → r < t .count → ruleAt t r ≡ ruleAt u r
 

@@ -1,11 +1,13 @@
 -- Schedules, and the walk of one from the start, as replay makes it: the first bad step is refused by 9 or 10.
-use mathlib.Core.Bool.{Bool, _&&_}
+use mathlib.Core.Bool.{Bool, true, false, _&&_}
 use mathlib.Core.List.{List, [], _∷_}
 use Prim.Native.Nat.{ℕ, zero, suc, _*_}
-use lib.Dec.{leb, ltb}
+use lib.Dec.{leb, ltb, eqb}
 use Rattle.model.specs.declared.Model.{Model}
 use Rattle.model.specs.declared.Rule.{Rule}
 use Rattle.model.specs.declared.Thread.{Thread}
+use Rattle.model.specs.declared.Top.{Top}
+use Rattle.model.specs.declared.Top.the-variants.{Any, Named}
 use Rattle.model.specs.Results.{Result, refused, accepted, need, andThen}
 use Rattle.model.specs.declared.ThreadId.{ThreadId}
 use Rattle.model.specs.declared.ThreadId.the-variants.{A, B}
@@ -94,3 +96,17 @@ stepFrom m c s = need 9 (turnFits m c s) (fire m c s (stackOf (ownerOf (s .turn)
 unfoldable pub walk : Model → Config → List Step → Walked
 walk m c [] = accepted c
 walk m c (s ∷ ss) = andThen (stepFrom m c s) (λ d. walk m d ss)
+
+-- A stack has the top that is asked for: any stack where none is named, and else one with that symbol on top. An empty stack has no top.
+abbrev pub hasTop : Top → List ℕ → Bool
+hasTop Any w = true
+hasTop (Named s) [] = false
+hasTop (Named s) (top ∷ w) = eqb top (s .0)
+
+-- Both stacks have the tops that the model asks for.
+abbrev pub underTops : Model → Stacks → Bool
+underTops m σ = hasTop (m .a .top) (σ .a) && hasTop (m .b .top) (σ .b)
+
+-- The target: its shared state, under the model's tops.
+abbrev pub atTarget : Model → ℕ → Stacks → Bool
+atTarget m shared σ = eqb shared (m .target .0) && underTops m σ

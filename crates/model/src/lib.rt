@@ -1,7 +1,7 @@
 // A model: two threads with stacks (pushdown systems) that share one state, and the question asked of them.
 // What a model means (steps, runs, lines, verdicts) is defined in specs/.
 ghost use mathlib.Core.Path.{_≡_};
-ghost use Rattle.model.specs.Valid.{faultOf, headFault, threadFault, ruleFault, rightFault, symbolFault};
+ghost use Rattle.model.specs.Valid.{faultOf, headFault, rangeFault, topFault, threadFault, ruleFault, rightFault, symbolFault};
 ghost use Rattle.model.specs.Lines.{tableBits};
 
 // A shared state, 0 to G−1. Never a stack symbol, though both are numbered from 0.
@@ -25,9 +25,17 @@ pub struct Rule {
     pub right: Right,
 }
 
-// A thread: the symbol its stack holds at the start, and its first `count` rules. The places from `count` on are unused.
+// What is asked of a stack where a run ends: nothing, or that a named symbol is its top.
+pub enum Top {
+    Any,
+    Named(Symbol),
+}
+
+// A thread: the symbol its stack holds at the start, what is asked of its top at the target, and its first `count` rules. The places
+// from `count` on are unused.
 pub struct Thread {
     pub first: Symbol,
+    pub top: Top,
     pub count: usize,
     pub rules: [Rule; 64],
 }
@@ -38,7 +46,7 @@ pub enum ThreadId {
     B,
 }
 
-// G shared states, K rounds, the start and target states, and the two threads.
+// G shared states, K rounds, the start and target states, and the two threads. The target is its state under both threads' tops.
 pub struct Model {
     pub g: u8,
     pub k: u8,
@@ -101,9 +109,38 @@ pub fn line_bits(g: u8, k: u8) -> u16
     LINE_BITS[i][j]
 }
 
-// Refusal 3 for a head field out of range: G, K, the two states, the two first symbols.
+// Refusal 3 for a head field out of range: G, K and the two states, then the two tops, then the two first symbols.
 fn head_fault(m: Model) -> u8
     ensures { λ r. ⌜ r ≡ headFault m ⌝ }
+{
+    let range = range_fault(m);
+    if range != 0 {
+        return range;
+    }
+    let a = m.a;
+    let top_a = a.top;
+    let first = top_fault(top_a);
+    if first != 0 {
+        return first;
+    }
+    let b = m.b;
+    let top_b = b.top;
+    let second = top_fault(top_b);
+    if second != 0 {
+        return second;
+    }
+    if 15 < m.a.first.0 {
+        return 3;
+    }
+    if 15 < m.b.first.0 {
+        return 3;
+    }
+    0
+}
+
+// Refusal 3 for G, K, the start or the target state out of range.
+fn range_fault(m: Model) -> u8
+    ensures { λ r. ⌜ r ≡ rangeFault m ⌝ }
 {
     if m.g < 1 {
         return 3;
@@ -123,13 +160,22 @@ fn head_fault(m: Model) -> u8
     if m.g <= m.target.0 {
         return 3;
     }
-    if 15 < m.a.first.0 {
-        return 3;
-    }
-    if 15 < m.b.first.0 {
-        return 3;
-    }
     0
+}
+
+// Refusal 3 for a named top above 15.
+fn top_fault(t: Top) -> u8
+    ensures { λ n. ⌜ n ≡ topFault t ⌝ }
+{
+    match t {
+        Top::Any => 0,
+        Top::Named(s) => {
+            if 15 < s.0 {
+                return 3;
+            }
+            0
+        }
+    }
 }
 
 // Refusal 4 for a count above 64 or a rule out of range among the first `count`.

@@ -40,7 +40,8 @@ module _ (m : Model) (l : List ℕ) {q : Shared} {reached : Bool} (e : replayOf 
   legal = accepts m l q reached .0 e
 
   -- The walk of the schedule's bytes makes every step.
-  walked : walk m (startOf m) (stepsOf l) ≡ accepted (legal .leads .last)
+  walked : walk m (startOf m) (stepsOf l)
+      ≡ accepted (record { turn = legal .leads .turn; shared = q .0; stacks = legal .stacks })
   walked =
       let same : stepsOf l ≡ legal .steps = ap stepsOf (legal .written) ∙ steps-bytes (legal .steps) in
       rw same (legal .leads .walked)

@@ -7,6 +7,7 @@ ghost use Rattle.model.specs.Tables.{bytesFor, LineTable};
 ghost use Rattle.reach.specs.Answer.{outcomeOf, Leaves};
 use costs::LINES;
 use model::Model;
+use summary::cells::SIZE;
 
 // The answer to a call that fills a line table: done, or a refusal's number.
 pub enum Outcome {
@@ -32,8 +33,9 @@ fn mark(m: Model, store: &mut [u8])
     requires { ⌜ Fits m ⌝ ∗ ⌜ bytesFor (m .g) (m .k) ≤ length (now store) ⌝ }
     ensures { λ _. ⌜ LineTable m (now (store .entry)) (now (store .exit)) ⌝ }
 {
+    let mut table = [0u64; SIZE];
     let mut a = [0u64; LINES];
     let mut b = [0u64; LINES];
-    costs::both(m, &mut a, &mut b);
+    costs::lines(m, &mut table, &mut a, &mut b);
     draw::draw(m, store, &a, &b);
 }

@@ -67,6 +67,17 @@ fn document() -> Tally {
     t.counted(faulty())
 }
 
+// Tops move no line: One with a top of A, and Two at K=1 with both.
+fn tops() -> Tally {
+    let mut t = Tally::new();
+    t = t.counted(agrees(b"\x4B\x02\x01\x81\x01\x00\x01\x01\x00\x01", b"\x27"));
+    t.counted(agrees(
+        b"\xCA\x01\x83\x03\x01\x02\x03\x06\x00\x00\x00\x01\x00\x01\x01\x20\x03\x01\x03\x10\x02\x00",
+        b"\x13\x06\x00",
+    ))
+}
+
 fn main() {
     document().report(b"document 01");
+    tops().report(b"tops");
 }

@@ -18,7 +18,7 @@ use Rattle.model.proofs.Ranges.{valid-fits}
 use Rattle.model.proofs.Results.{due, kept}
 use Rattle.record.specs.declared.Written.{Written}
 use Rattle.record.specs.declared.Written.the-variants.{Length, Refused}
-use Rattle.writer.specs.Put.{Put, Small}
+use Rattle.writer.specs.Put.{Put, Small, SmallModel}
 use Rattle.writer.specs.Writer.{recordOf}
 use Rattle.record.specs.Written.{writtenOf, storeOf, Survives}
 use Rattle.record.proofs.Records.{written-read}
@@ -28,10 +28,15 @@ small : (g : ℕ) (t : Thread) → g ≤ 4 → ThreadFits g t → Small t
 small g t h f =
     record { count = f .count; halves = λ r k. let rule = f .rules r k in (omega arith, rule .top) }
 
--- Both threads of a valid model are small.
-pub both-small : (m : Model) → Valid m → Small (m .a) × Small (m .b)
-both-small m h =
-    let f = valid-fits m .0 h in (small (m .g) (m .a) (f .g .1) (f .a), small (m .g) (m .b) (f .g .1) (f .b))
+-- A valid model is small.
+pub small-model : (m : Model) → Valid m → SmallModel m
+small-model m h =
+    let f = valid-fits m .0 h in
+    record {
+      target = omega (arith, f .target, f .g .1);
+      a = small (m .g) (m .a) (f .g .1) (f .a);
+      b = small (m .g) (m .b) (f .g .1) (f .b);
+    }
 
 -- Bytes put at the front are the front.
 pub front : {l m : List ℕ} {n : ℕ} (bytes : List ℕ) → Put l m 0 n bytes → length bytes ≤ length l → take n m ≡ bytes
@@ -56,12 +61,11 @@ module _ (m : Model) (store : List ℕ) where
       let r : Refused n ≡ writtenOf m (length store) = rw (← due-first, ← due (accepted (length (recordOf m))) h) in
       (r, (kept n (recordOf m) store h ∙ fixed n due-first, tt))
 
-  -- .. and of a valid one a record that does not fit ..
-  pub short : Valid m → {n : ℕ} → n ≡ length (recordOf m) → length store < n → Told (Refused 7) store
+  -- .. and of a valid one a record that does not fit, by 7 ..
+  pub short : Valid m → {n : ℕ} → n ≡ 7 → length store < length (recordOf m) → Told (Refused n) store
   unfolding writtenOf storeRefusal firstOf
-  short v e h =
-      let r : Refused 7 ≡ writtenOf m (length store) = rw (v, ← e, lt-leb _ _ h) in
-      (r, (fixed 7 (rw (v, ← e, lt-leb _ _ h)), tt))
+  short v {n} e h =
+      let r : Refused n ≡ writtenOf m (length store) = rw (e, v, lt-leb _ _ h) in (r, (fixed 7 (rw (v, lt-leb _ _ h)), tt))
 
   -- .. while one that fits is written, and is read back.
   pub whole : Valid m → Places m → {n : ℕ} → n ≡ length (recordOf m) → n ≤ length store

@@ -1,5 +1,5 @@
--- 650 bytes decide the answer to a record, and a record is refused by a number from 1 to 6, at the front of any bytes by 1 to 5:
--- every part of the reader is steady, part by part, and a record takes at most 649 bytes.
+-- 653 bytes decide the answer to a record, and a record is refused by a number from 1 to 6, at the front of any bytes by 1 to 5:
+-- every part of the reader is steady, part by part, and a record takes at most 652 bytes.
 use mathlib.Core.Bool.{Bool, true, false, not}
 use mathlib.Core.List.{List, [], _∷_}
 use mathlib.Core.Path.{_≡_, refl}
@@ -13,6 +13,7 @@ use Rattle.model.specs.declared.Model.{Model}
 use Rattle.model.specs.Bits.{bit}
 use Rattle.model.specs.Results.{refused, accepted}
 use Rattle.record.specs.Reader.{Read, andRead, inRange, parseRanged, parseField, ruleMap, parseRight, parseRule}
+use Rattle.record.specs.Reader.{announces, stateOf, parseTarget, parseTop, parseSecond}
 use Rattle.record.specs.Reader.{parseRuleList, parseRules, parseHead, parseFront, ended, readOf}
 use Rattle.record.proofs.OneField.{field-forth}
 use Rattle.record.proofs.Steady.{Low, Takes, before, Steady, none, one, tested, wider, chained}
@@ -68,7 +69,22 @@ rules present g =
     let low = field-forth present 4 0 65 0 bs zero-le (omega arith) e .most in
     wider (omega arith) (list g n)
 
-head : Steady 7 parseHead
+target : (g : ℕ) → Steady 1 (parseTarget g)
+unfolding parseTarget
+target g = chained one λ bs b rest e. tested 3 (ltb (stateOf b) g) three (none b)
+
+top : (present : Bool) → Steady 1 (parseTop present)
+unfolding parseTop
+top false = wider zero-le (none _)
+top true = chained (ranged 3 0 16 three) λ bs x rest e. none _
+
+second : (present : Bool) → Steady 3 (parseSecond present)
+unfolding parseSecond
+second present =
+    chained (field present 3 0 4 0 three) λ bs map rest e.
+    chained (top (bit 0 map)) λ bs a rest e. chained (top (bit 1 map)) λ bs b rest e. none _
+
+head : Steady 10 parseHead
 unfolding parseHead
 head =
     chained one λ bs map rest e.
@@ -76,12 +92,13 @@ head =
     (chained (field (bit 0 map) 3 1 5 4 three) λ bs g rest e.
     chained (field (bit 1 map) 3 1 4 2 three) λ bs k rest e.
     chained (field (bit 2 map) 3 0 g 0 three) λ bs start rest e.
-    chained (ranged 3 0 g three) λ bs target rest e.
+    chained (target g) λ bs q rest e.
+    chained (second (announces q)) λ bs tops rest e.
     chained (field (bit 4 map) 3 0 16 0 three) λ bs a rest e.
     chained (field (bit 5 map) 3 0 16 0 three) λ bs b rest e. none _)
 
--- A record at the front takes at most 649 bytes, 7 + 2 · 321, and they decide it.
-pub front : Steady 649 parseFront
+-- A record at the front takes at most 652 bytes, 10 + 2 · 321, and they decide it.
+pub front : Steady 652 parseFront
 unfolding parseFront
 front =
     chained head λ bs h rest e.
@@ -97,25 +114,25 @@ pub record-refusal : (bs : List ℕ) {n : ℕ} → readOf bs ≡ refused n → (
 unfolding readOf
 record-refusal bs {n} = go (parseFront bs) (front .takes bs)
   where
-    go : (r : Read Model) → Takes (length bs) 649 r → andRead r ended ≡ refused n → (1 ≤ n) × (n ≤ 6)
+    go : (r : Read Model) → Takes (length bs) 652 r → andRead r ended ≡ refused n → (1 ≤ n) × (n ≤ 6)
     go (refused k) t e = let same : k ≡ n = cc in let low = rw same at t in (low .0, omega (arith, low .1))
     go (accepted (m, [])) t e = let z : _≡_ {A = ℕ} 0 1 = cc in absurd (omega arith)
     go (accepted (m, b ∷ rest)) t e = let six : _≡_ {A = ℕ} 6 n = cc in (omega arith, omega arith)
 
--- A byte is left of 650, and more behind it changes nothing.
-left-over : (more : List ℕ) (r : Read Model) → Takes 650 649 r → andRead (before more r) ended ≡ andRead r ended
+-- A byte is left of 653, and more behind it changes nothing.
+left-over : (more : List ℕ) (r : Read Model) → Takes 653 652 r → andRead (before more r) ended ≡ andRead r ended
 left-over more (refused n) t = refl
 left-over more (accepted (m, [])) t = absurd (omega arith)
 left-over more (accepted (m, b ∷ rest)) t = refl
 
--- The first 650 bytes decide the answer.
-pub decided : (bs : List ℕ) → readOf bs ≡ readOf (take 650 bs)
+-- The first 653 bytes decide the answer.
+pub decided : (bs : List ℕ) → readOf bs ≡ readOf (take 653 bs)
 unfolding readOf
-decided bs = elim (decLt 650 (length bs)) [
+decided bs = elim (decLt 653 (length bs)) [
   | yes h ↦
-      let size : length (take 650 bs) ≡ 650 = length-take-le 650 bs (omega arith) in
-      let first : parseFront bs ≡ before (drop 650 bs) (parseFront (take 650 bs)) =
-      rw take-append-drop at (front .decided (take 650 bs) (drop 650 bs) (omega arith)) in
-      rw first (left-over (drop 650 bs) (parseFront (take 650 bs)) (rw size at (front .takes (take 650 bs))))
-  | no h ↦ rw (take-all 650 bs (omega arith))
+      let size : length (take 653 bs) ≡ 653 = length-take-le 653 bs (omega arith) in
+      let first : parseFront bs ≡ before (drop 653 bs) (parseFront (take 653 bs)) =
+      rw take-append-drop at (front .decided (take 653 bs) (drop 653 bs) (omega arith)) in
+      rw first (left-over (drop 653 bs) (parseFront (take 653 bs)) (rw size at (front .takes (take 653 bs))))
+  | no h ↦ rw (take-all 653 bs (omega arith))
 ]

@@ -1,20 +1,25 @@
 -- The head of a record both ways: field by field, and the map is the sum of the bits of the fields that are not absent.
-use mathlib.Core.Bool.{Bool, not}
-use mathlib.Core.List.{List, _∷_, _++_}
-use mathlib.Core.Path.{_≡_}
-use Prim.Native.Nat.{ℕ, _≤_, _<_, zero-le}
+use mathlib.Core.Bool.{Bool, true, false, not, cond}
+use mathlib.Core.List.{List, [], _∷_, _++_}
+use mathlib.Core.Path.{_≡_, refl, _∙_}
+use Prim.Native.Nat.{ℕ, _+_, _≤_, _<_, zero-le}
+use native.Mathlib.Nat.{zero-add, add-zero, suc-add, add-comm}
+use native.Mathlib.Numerals.{add-one}
 use native.Mathlib.Omega.{arith}
 use lib.Dec.{T, eqb}
+use lib.ListN.{length, getD}
 use Rattle.model.specs.declared.Model.{Model}
-use Rattle.model.specs.Bits.{bit}
-use Rattle.model.specs.Fits.{Fits}
+use Rattle.model.specs.Bits.{bit, oneIf}
+use Rattle.model.specs.Fits.{TopFits, Fits}
 use Rattle.model.specs.Results.{accepted}
 use Rattle.model.proofs.Results.{checked}
 use Rattle.model.proofs.Tests.{passed}
-use Rattle.record.specs.Reader.{parseByte, parseRanged, parseField, Head, parseHead}
-use Rattle.writer.specs.Writer.{fieldOf, weightOf, mapOf}
-use Rattle.record.proofs.OneField.{parted, carried, byte-forth}
-use Rattle.record.proofs.OneField.{ranged-back, ranged-forth, field-back, FieldRead, field-forth}
+use Rattle.record.specs.declared.Second.{Second}
+use Rattle.record.specs.Older.{targetByte}
+use Rattle.record.specs.Reader.{parseByte, parseField, announces, stateOf, parseTarget, parseSecond, Head, parseHead}
+use Rattle.writer.specs.Writer.{fieldOf, weightOf, mapOf, secondMap, targetBytes}
+use Rattle.record.proofs.OneField.{parted, carried, byte-forth, field-back, FieldRead, field-forth}
+use Rattle.record.proofs.Tops.{marked, unmarked, target-back, target-forth, target-with, second-back, SecondRead, second-forth}
 use Rattle.record.proofs.Maps.{HeadBits, head-bits}
 
 -- The head of a model.
@@ -26,6 +31,7 @@ headOf m =
       k = m .k;
       start = m .start .0;
       target = m .target .0;
+      second = record { a = m .a .top; b = m .b .top };
       a = m .a .first .0;
       b = m .b .first .0;
     }
@@ -33,7 +39,8 @@ headOf m =
 -- The bytes of a head, and what follows it.
 unfoldable pub headWith : Head → List ℕ → List ℕ
 headWith h rest =
-    h .map ∷ (fieldOf 4 (h .g) ++ (fieldOf 2 (h .k) ++ (fieldOf 0 (h .start) ++ (h .target ∷ (fieldOf 0 (h .a) ++ (fieldOf 0 (h .b) ++ rest))))))
+    h .map ∷ (fieldOf 4 (h .g) ++ (fieldOf 2 (h .k) ++ (fieldOf 0 (h .start) ++
+    (targetBytes (h .target) (h .second .a) (h .second .b) ++ (fieldOf 0 (h .a) ++ (fieldOf 0 (h .b) ++ rest))))))
 
 -- The bits of a model's map.
 pub map-bits : (m : Model)
@@ -50,15 +57,50 @@ head-back m f rest =
     let k : m .k < 4 = omega (arith, f .k .1) in
     let first : m .a .first .0 < 16 = omega (arith, f .a .first) in
     let second : m .b .first .0 < 16 = omega (arith, f .b .first) in
+    let low : m .target .0 < 128 = omega (arith, f .target, f .g .1) in
+    let map = secondMap (m .a .top) (m .b .top) in
+    let target = marked (m .target .0) map low in
     rw (
       b .bit3,
       field-back 3 4 (m .g) _ (b .bit0) (f .g .0) g,
       field-back 3 2 (m .k) _ (b .bit1) (f .k .0) k,
       field-back 3 0 (m .start .0) _ (b .bit2) zero-le (f .start),
-      ranged-back 3 _ zero-le (f .target),
+      target-with,
+      target-back map _ (f .target) low,
+      target .0,
+      second-back (m .a .top) (m .b .top) (f .a .top) (f .b .top) _ (target .1),
       field-back 3 0 (m .a .first .0) _ (b .bit4) zero-le first,
       field-back 3 0 (m .b .first .0) _ (b .bit5) zero-le second,
     )
+
+-- The bytes behind others.
+behind : (xs ys : List ℕ) (i : ℕ) → getD (xs ++ ys) (length xs + i) 0 ≡ getD ys i 0
+behind [] ys i = rw zero-add
+behind (x ∷ xs) ys i = rw suc-add (behind xs ys i)
+
+-- A field that was read takes a byte exactly if its bit stands.
+field-size : {present : Bool} {low limit default v : ℕ} {bs rest : List ℕ} → FieldRead present low limit default v bs rest
+    → length (fieldOf default v) ≡ oneIf present
+unfolding fieldOf
+field-size {default = default} {v = v} f = rw (f .stands) (go (eqb v default))
+  where
+    go : (absent : Bool) → length (cond absent [] (v ∷ [])) ≡ oneIf (not absent)
+    go true = refl
+    go false = refl
+
+-- What is left after a field that was read.
+past : {present : Bool} {low limit default v : ℕ} {bs rest : List ℕ} → FieldRead present low limit default v bs rest → (i : ℕ)
+    → getD bs (oneIf present + i) 0 ≡ getD rest i 0
+past {default = default} {v = v} {rest = rest} f i = rw (f .bytes, ← field-size f) (behind (fieldOf default v) rest i)
+
+-- The target byte comes after the map, G, K and the start state.
+pub target-place : {map g k start : ℕ} {bs m₁ m₂ m₃ m₄ : List ℕ} → bs ≡ map ∷ m₁
+    → FieldRead (bit 0 map) 1 5 4 g m₁ m₂ → FieldRead (bit 1 map) 1 4 2 k m₂ m₃ → FieldRead (bit 2 map) 0 g 0 start m₃ m₄
+    → targetByte bs ≡ getD m₄ 0 0
+unfolding targetByte
+target-place {map} {m₁ = m₁} e g k s =
+    let last = rw add-zero at (past s 0) in
+    rw (e, add-comm 1, add-one) (past g (oneIf (bit 1 map) + oneIf (bit 2 map)) ∙ (past k (oneIf (bit 2 map)) ∙ last))
 
 -- What reading a head tells, of a map that is a byte.
 pub record HeadRead (bs : List ℕ) (h : Head) (rest : List ℕ) : Type 0 where
@@ -69,20 +111,34 @@ pub record HeadRead (bs : List ℕ) (h : Head) (rest : List ℕ) : Type 0 where
   pub k : (1 ≤ h .k) × (h .k ≤ 3)
   pub start : h .start < h .g
   pub target : h .target < h .g
+  pub topA : TopFits (h .second .a)
+  pub topB : TopFits (h .second .b)
+  pub announced : announces (targetByte bs) ≡ not (eqb (secondMap (h .second .a) (h .second .b)) 0)
   pub first : h .a ≤ 15
   pub second : h .b ≤ 15
 
 -- The parts of a head that were read make its bytes.
-head-made : {map g k start target a b : ℕ} {bs m₁ m₂ m₃ m₄ m₅ m₆ rest : List ℕ}
+head-made : {map g k start target a b : ℕ} {second : Second} {bs m₁ m₂ m₃ m₄ m₅ m₆ m₇ rest : List ℕ}
     → bs ≡ map ∷ m₁ → T (bit 3 map)
     → FieldRead (bit 0 map) 1 5 4 g m₁ m₂ → FieldRead (bit 1 map) 1 4 2 k m₂ m₃ → FieldRead (bit 2 map) 0 g 0 start m₃ m₄
-    → (m₄ ≡ target ∷ m₅) × (0 ≤ target) × (target < g)
-    → FieldRead (bit 4 map) 0 16 0 a m₅ m₆ → FieldRead (bit 5 map) 0 16 0 b m₆ rest
-    → HeadRead bs (record { map = map; g = g; k = k; start = start; target = target; a = a; b = b }) rest
+    → (m₄ ≡ target ∷ m₅) × (stateOf target < g) → SecondRead (announces target) second m₅ m₆
+    → FieldRead (bit 4 map) 0 16 0 a m₆ m₇ → FieldRead (bit 5 map) 0 16 0 b m₇ rest
+    → HeadRead bs (record { map = map; g = g; k = k; start = start; target = stateOf target; second = second; a = a; b = b }) rest
 unfolding headWith
-head-made {map} e t g k s d a b =
+head-made {map} {target = target} e t g k s d n a b =
     record {
-      bytes = rw (← b .bytes, ← a .bytes, ← d .0, ← s .bytes, ← k .bytes, ← g .bytes) e;
+      bytes =
+          rw (
+            ← b .bytes,
+            ← a .bytes,
+            target-with,
+            ← n .bytes,
+            unmarked target _ (n .stands),
+            ← d .0,
+            ← s .bytes,
+            ← k .bytes,
+            ← g .bytes,
+          ) e;
       bits = λ ra rb p q. record {
         bit0 = g .stands;
         bit1 = k .stands;
@@ -96,7 +152,10 @@ head-made {map} e t g k s d a b =
       g = (g .least, omega (arith, g .most));
       k = (k .least, omega (arith, k .most));
       start = s .most;
-      target = d .2;
+      target = d .1;
+      topA = n .a;
+      topB = n .b;
+      announced = rw (target-place e g k s, d .0) (n .stands);
       first = omega (arith, a .most);
       second = omega (arith, b .most);
     }
@@ -111,13 +170,15 @@ head-forth bs e =
     let fg = field-forth (bit 0 map) 3 1 5 4 m₁ (omega arith) (omega arith) b₂ in
     parted (parseField (bit 1 map) 3 1 4 2 m₂) _ e₃ λ k m₃ b₃ e₄.
     parted (parseField (bit 2 map) 3 0 g 0 m₃) _ e₄ λ start m₄ b₄ e₅.
-    parted (parseRanged 3 0 g m₄) _ e₅ λ target m₅ b₅ e₆.
-    parted (parseField (bit 4 map) 3 0 16 0 m₅) _ e₆ λ a m₆ b₆ e₇.
-    parted (parseField (bit 5 map) 3 0 16 0 m₆) _ e₇ λ b m₇ b₇ e₈.
-    carried (HeadRead bs) e₈
+    parted (parseTarget g m₄) _ e₅ λ target m₅ b₅ e₆.
+    parted (parseSecond (announces target) m₅) _ e₆ λ second m₆ b₆ e₇.
+    parted (parseField (bit 4 map) 3 0 16 0 m₆) _ e₇ λ a m₇ b₇ e₈.
+    parted (parseField (bit 5 map) 3 0 16 0 m₇) _ e₈ λ b m₈ b₈ e₉.
+    carried (HeadRead bs) e₉
     (head-made (byte-forth bs b₁) t fg
     (field-forth (bit 1 map) 3 1 4 2 m₂ (omega arith) (omega arith) b₃)
     (field-forth (bit 2 map) 3 0 g 0 m₃ zero-le (fg .least) b₄)
-    (ranged-forth 3 0 g m₄ b₅)
-    (field-forth (bit 4 map) 3 0 16 0 m₅ zero-le (omega arith) b₆)
-    (field-forth (bit 5 map) 3 0 16 0 m₆ zero-le (omega arith) b₇))
+    (target-forth g m₄ b₅)
+    (second-forth (announces target) m₅ b₆)
+    (field-forth (bit 4 map) 3 0 16 0 m₆ zero-le (omega arith) b₇)
+    (field-forth (bit 5 map) 3 0 16 0 m₇ zero-le (omega arith) b₈))

@@ -4,9 +4,11 @@ pub mod Fronts
 pub mod Heads
 pub mod Lists
 pub mod Maps
+pub mod Older
 pub mod OneField
 pub mod Parts
 pub mod Records
 pub mod RuleLists
 pub mod Steady
 pub mod ThreadRules
+pub mod Tops

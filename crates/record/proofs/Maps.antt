@@ -3,16 +3,18 @@
 use mathlib.Core.Bool.{Bool, true, false, not, _&&_, _||_, cond, Bool·beq, Bool·not-not, true≢false, false≢true}
 use mathlib.Core.Logic.{_↔_, inl, inr}
 use mathlib.Core.Path.{_≡_, refl, subst}
-use Prim.Native.Nat.{ℕ, zero, suc, _+_, _<_}
+use Prim.Native.Nat.{ℕ, zero, suc, _+_, _%_, _<_}
 use native.Mathlib.Nat.{le-suc-iff}
 use native.Mathlib.Omega.{arith}
 use lib.Dec.{T, ltb, eqb}
 use Rattle.model.specs.declared.Right.{Right}
 use Rattle.model.specs.declared.Right.the-variants.{Remove, Swap, Push}
+use Rattle.model.specs.declared.Top.{Top}
+use Rattle.model.specs.declared.Top.the-variants.{Any, Named}
 use Rattle.model.specs.Bits.{bit}
 use Rattle.model.proofs.Tests.{both, order, equal}
-use Rattle.record.specs.Reader.{ruleMap}
-use Rattle.writer.specs.Writer.{symbolBits}
+use Rattle.record.specs.Reader.{ruleMap, announces, stateOf}
+use Rattle.writer.specs.Writer.{symbolBits, topWeight, secondMap}
 
 -- A test that passes at both truth values.
 always : (Bool → Bool) → Bool
@@ -156,6 +158,52 @@ rule-sum map t absent x e f =
     let h = order (suc map) 8 .0 (both (ltb map 8) (bit 1 map || not (bit 2 map)) .0 t .0) in
     let u = equal s map .0 (given (ruleMap map) (eqb s map) (below ruleSum 8 all-rule-sums map h) t) in
     rw (flag absent (bit 0 map) e, f) at u
+
+-- Whether a top is named.
+abbrev pub named : Top → Bool
+named Any = false
+named (Named x) = true
+
+-- The bits of a second map: each stands exactly if its top is named, and no other does.
+pub second-bits : (a b : Top) → (secondMap a b < 4) × (bit 0 (secondMap a b) ≡ named a) × (bit 1 (secondMap a b) ≡ named b)
+unfolding secondMap
+second-bits Any Any = (omega arith, refl, refl)
+second-bits Any (Named y) = (omega arith, refl, refl)
+second-bits (Named x) Any = (omega arith, refl, refl)
+second-bits (Named x) (Named y) = (omega arith, refl, refl)
+
+-- What a top adds, by whether it is named.
+added : (w : ℕ) (t : Top) → topWeight w t ≡ cond (named t) w 0
+added w Any = refl
+added w (Named x) = refl
+
+secondSum : ℕ → Bool
+secondSum map = eqb (cond (bit 0 map) 1 0 + cond (bit 1 map) 2 0) map
+
+all-second-sums : T (upTo secondSum 4)
+unfolding secondSum
+all-second-sums = tt
+
+-- A second map is the sum of its bits.
+pub second-sum : (map : ℕ) → map < 4 → (a b : Top) → bit 0 map ≡ named a → bit 1 map ≡ named b → secondMap a b ≡ map
+unfolding secondSum secondMap
+second-sum map h a b e f =
+    let t = equal (cond (bit 0 map) 1 0 + cond (bit 1 map) 2 0) map .0 (below secondSum 4 all-second-sums map h) in
+    rw (added 1 a, added 2 b) (rw (e, f) at t)
+
+targetBits : ℕ → Bool
+targetBits b = Bool·beq (announces b) (bit 7 b) && eqb (stateOf b) (b % 128)
+
+all-target-bits : T (upTo targetBits 256)
+unfolding targetBits
+all-target-bits = tt
+
+-- A target byte announces a second map by its bit 7, and its low seven bits are its state.
+pub target-bits : (b : ℕ) → b < 256 → (announces b ≡ bit 7 b) × (stateOf b ≡ b % 128)
+unfolding targetBits
+target-bits b h =
+    let z = both (Bool·beq (announces b) (bit 7 b)) (eqb (stateOf b) (b % 128)) .0 (below targetBits 256 all-target-bits b h) in
+    (same (announces b) (bit 7 b) .0 (z .0), equal (stateOf b) (b % 128) .0 (z .1))
 
 -- Whether a right side has a first and a second symbol.
 abbrev pub hasFirst : Right → Bool

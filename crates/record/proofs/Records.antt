@@ -1,5 +1,6 @@
 -- Whole records both ways: part by part, and the map is the sum of the bits of its fields. So every accepted record is
 -- rewritten byte for byte, and every valid model survives writing and reading.
+use mathlib.Core.Bool.{not}
 use mathlib.Core.List.{List, [], _∷_, _++_, append-assoc, append-nil}
 use mathlib.Core.Path.{_≡_, refl, sym, ap, subst, _∙_}
 use Prim.Native.Nat.{ℕ, _-_, _≤_, _<_}
@@ -19,9 +20,10 @@ use Rattle.model.proofs.Results.{apart}
 use Rattle.record.specs.declared.Reading.{Reading}
 use Rattle.record.specs.Kept.{Unused, Kept, Keeps}
 use Rattle.record.specs.Held.{readingOf}
-use Rattle.record.specs.Reader.{Read, parseRules, Head, parseHead, threadFrom, modelOf, parseFront, ended, readOf}
+use Rattle.record.specs.Reader.{Read, announces, parseRules, Head, parseHead, threadFrom, modelOf, parseFront, ended, readOf}
+use Rattle.record.specs.Older.{targetByte}
 use Rattle.record.specs.Written.{ReadsBack}
-use Rattle.writer.specs.Writer.{weightOf, rulesOf, mapOf, headBytes, recordOf}
+use Rattle.writer.specs.Writer.{weightOf, rulesOf, mapOf, secondMap, headBytes, recordOf}
 use Rattle.record.proofs.OneField.{parted, carried, value-same}
 use Rattle.record.proofs.Maps.{HeadBits, head-sum}
 use Rattle.record.proofs.ThreadRules.{rules-back, RulesRead, rules-forth, thread-fits, rules-bytes}
@@ -57,6 +59,7 @@ pub record FrontRead (bs : List ℕ) (m : Model) (rest : List ℕ) : Type 0 wher
   pub places : Places m
   pub unusedA : Unused (m .a)
   pub unusedB : Unused (m .b)
+  pub announced : announces (targetByte bs) ≡ not (eqb (secondMap (m .a .top) (m .b .top)) 0)
 
 -- The map of the model that was read is the map that was read.
 same-map : (h : Head) (ra rb : List Rule) → h .map < 256
@@ -79,19 +82,20 @@ front-made {bs} {m₁} {m₂} {rest} {h} {ra} {rb} hd a b =
       bytes = λ k.
           let small : h .map < 256 = subst (λ l. getD l 0 0 < 256) (hd .bytes) k in
           let map = same-map h ra rb small (hd .bits (eqb (length ra) 0) (eqb (length rb) 0) (a .stands) (b .stands)) in
-          rw (record-bytes (modelOf h ra rb) rest, map, rules-bytes (h .b) rb rest, ← b .bytes, rules-bytes (h .a) ra m₂, ← a .bytes) (hd .bytes);
+          rw (record-bytes (modelOf h ra rb) rest, map, rules-bytes (h .b) (h .second .b) rb rest, ← b .bytes, rules-bytes (h .a) (h .second .a) ra m₂, ← a .bytes) (hd .bytes);
       valid = valid-fits (modelOf h ra rb) .1
           (record {
             g = hd .g;
             k = hd .k;
             start = hd .start;
             target = hd .target;
-            a = thread-fits (h .g) (h .a) ra (hd .first) (a .most) (a .fits);
-            b = thread-fits (h .g) (h .b) rb (hd .second) (b .most) (b .fits);
+            a = thread-fits (h .g) (h .a) (h .second .a) ra (hd .first) (hd .topA) (a .most) (a .fits);
+            b = thread-fits (h .g) (h .b) (h .second .b) rb (hd .second) (hd .topB) (b .most) (b .fits);
           });
       places = record { a = padded-size ra (a .most); b = padded-size rb (b .most) };
       unusedA = drop-append-seam ra (replicate (64 - length ra) zeroRule);
       unusedB = drop-append-seam rb (replicate (64 - length rb) zeroRule);
+      announced = hd .announced;
     }
 
 -- A record that is read was written so.
@@ -108,29 +112,31 @@ whole : {m n : Model} (bs rest : List ℕ) → ended n bs ≡ accepted (m, rest)
 whole [] rest e = (refl, value-same e .0)
 whole (b ∷ bs) rest e = apart e
 
+-- So it is a record at the front with nothing behind it.
+pub whole-front : (bs : List ℕ) {m : Model} {rest : List ℕ} → readOf bs ≡ accepted (m, rest) → parseFront bs ≡ accepted (m, [])
+unfolding readOf
+whole-front bs e = parted (parseFront bs) ended e λ n mid b f. let w = whole mid _ f in rw (w .0, w .1) at b
+
 -- Every accepted record is rewritten byte for byte.
 pub read-kept : (bs : List ℕ) {m : Model} {rest : List ℕ} → readOf bs ≡ accepted (m, rest) → getD bs 0 0 < 256 → Kept bs m
-unfolding readOf
-read-kept bs e k =
-    parted (parseFront bs) ended e λ n mid b f.
-    let w = whole mid _ f in
-    let r = front-forth bs b in
-    subst (Kept bs) (w .1)
-    (record {
+read-kept bs {m} e k =
+    let r = front-forth bs (whole-front bs e) in
+    record {
       valid = r .valid;
       unusedA = r .unusedA;
       unusedB = r .unusedB;
-      rewritten = sym (r .bytes k ∙ ap (λ l. recordOf n ++ l) (w .0) ∙ append-nil (recordOf n));
-    })
+      rewritten = sym (r .bytes k ∙ append-nil (recordOf m));
+    }
 
 -- A thread with its unused places zero is the same thread.
 tidy-same : (t : Thread) → length (t .rules) ≡ 64 → t .count ≤ 64
-    → SameThread t (threadFrom (t .first .0) (take (t .count) (t .rules)))
+    → SameThread t (threadFrom (t .first .0) (t .top) (take (t .count) (t .rules)))
 tidy-same t n k =
     let used : List Rule = take (t .count) (t .rules) in
     let size : length used ≡ t .count = length-take-le (t .count) (t .rules) (omega arith) in
     record {
       first = refl;
+      top = refl;
       count = sym size;
       rules = λ r h. sym (List·getD-append used (replicate (64 - length used) zeroRule) zeroRule r (omega arith) ∙ getD-take (t .count) (t .rules) r zeroRule h);
     }

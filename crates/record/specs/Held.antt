@@ -8,6 +8,8 @@ use Rattle.model.specs.declared.Model.{Model}
 use Rattle.model.specs.declared.Right.{Right}
 use Rattle.model.specs.declared.Rule.{Rule}
 use Rattle.model.specs.declared.Thread.{Thread}
+use Rattle.model.specs.declared.Top.{Top}
+use Rattle.model.specs.declared.Top.the-variants.{Any}
 use Rattle.model.specs.Results.{Result, refused, accepted, andThen}
 use Rattle.model.specs.Rules.{zeroRule}
 use Rattle.record.specs.declared.Answer.the-variants.{Accepted}
@@ -24,8 +26,13 @@ use Rattle.record.specs.declared.RightPart.the-variants as rightPart
 use Rattle.record.specs.declared.RuleList.{RuleList}
 use Rattle.record.specs.declared.RulePart.{RulePart}
 use Rattle.record.specs.declared.RulePart.the-variants as rulePart
+use Rattle.record.specs.declared.Second.{Second}
+use Rattle.record.specs.declared.SecondPart.{SecondPart}
+use Rattle.record.specs.declared.SecondPart.the-variants as secondPart
 use Rattle.record.specs.declared.Taken.{Taken}
 use Rattle.record.specs.declared.Taken.the-variants as taken
+use Rattle.record.specs.declared.TopPart.{TopPart}
+use Rattle.record.specs.declared.TopPart.the-variants as topPart
 use Rattle.record.specs.Reader.{Read, Head}
 
 -- A field: its byte.
@@ -43,6 +50,16 @@ abbrev pub rulePartOf : RulePart → Result (Rule × ℕ)
 rulePartOf (rulePart.Read x) = accepted (x .rule, x .at)
 rulePartOf (rulePart.Refused n) = refused n
 
+-- The top of a thread.
+abbrev pub topPartOf : TopPart → Result (Top × ℕ)
+topPartOf (topPart.Read x) = accepted (x .top, x .at)
+topPartOf (topPart.Refused n) = refused n
+
+-- What a second map names.
+abbrev pub secondPartOf : SecondPart → Result (Second × ℕ)
+secondPartOf (secondPart.Read x) = accepted (x .second, x .at)
+secondPartOf (secondPart.Refused n) = refused n
+
 -- The head fields without the place after them.
 abbrev pub fieldsOf : Fields → Head
 fieldsOf f =
@@ -52,6 +69,7 @@ fieldsOf f =
       k = f .k;
       start = f .start;
       target = f .target;
+      second = f .second;
       a = f .a;
       b = f .b;
     }
@@ -104,7 +122,7 @@ pub record Padded (count : ℕ) (rs : List Rule) : Type 0 where
 
 -- A thread whose places are all zero.
 abbrev pub zeroThread : Thread
-zeroThread = record { first = record { 0 = 0 }; count = 0; rules = replicate 64 zeroRule }
+zeroThread = record { first = record { 0 = 0 }; top = Any; count = 0; rules = replicate 64 zeroRule }
 
 -- A model whose places are all zero.
 abbrev pub zeroModel : Model

@@ -1,4 +1,5 @@
 pub mod Held
 pub mod Kept
+pub mod Older
 pub mod Reader
 pub mod Written

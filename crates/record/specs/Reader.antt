@@ -1,5 +1,5 @@
 -- The model record as it is read: from left to right, and the first fault gives the refusal.
-use mathlib.Core.Bool.{Bool, true, false, not, _&&_, _||_}
+use mathlib.Core.Bool.{Bool, true, false, not, _&&_, _||_, cond}
 use mathlib.Core.List.{List, [], _∷_, _++_}
 use Prim.Native.Nat.{ℕ, zero, suc, _-_, _/_, _%_}
 use lib.Dec.{leb, ltb, eqb}
@@ -9,9 +9,12 @@ use Rattle.model.specs.declared.Right.{Right}
 use Rattle.model.specs.declared.Right.the-variants.{Remove, Swap, Push}
 use Rattle.model.specs.declared.Rule.{Rule}
 use Rattle.model.specs.declared.Thread.{Thread}
+use Rattle.model.specs.declared.Top.{Top}
+use Rattle.model.specs.declared.Top.the-variants.{Any, Named}
 use Rattle.model.specs.Bits.{bit}
 use Rattle.model.specs.Results.{Result, refused, accepted, andThen, need}
 use Rattle.model.specs.Rules.{zeroRule}
+use Rattle.record.specs.declared.Second.{Second}
 
 -- Reading at the front of a list of bytes comes to a value and the bytes left.
 abbrev pub Read : Type 0 → Type 0
@@ -85,6 +88,30 @@ parseRuleList g (suc n) bs = andRead (parseRule g bs) (λ r rest. andRead (parse
 unfoldable pub parseRules : Bool → ℕ → List ℕ → Read (List Rule)
 parseRules present g bs = andRead (parseField present 4 0 65 0 bs) (λ n rest. parseRuleList g n rest)
 
+-- Bit 7 of a target byte, which announces a second map: it stands from 128 on.
+abbrev pub announces : ℕ → Bool
+announces b = leb 128 b
+
+-- The state of a target byte: its low seven bits.
+abbrev pub stateOf : ℕ → ℕ
+stateOf b = cond (announces b) (b - 128) b
+
+-- A target byte, whose state is below G (3).
+unfoldable pub parseTarget : ℕ → List ℕ → Read ℕ
+parseTarget g bs = andRead (parseByte bs) (λ b rest. need 3 (ltb (stateOf b) g) (accepted (b, rest)))
+
+-- The top that a thread is asked for: a symbol (3) where its bit stands, else any.
+unfoldable pub parseTop : Bool → List ℕ → Read Top
+parseTop false bs = accepted (Any, bs)
+parseTop true bs = andRead (parseRanged 3 0 16 bs) (λ x rest. accepted (Named (record { 0 = x }), rest))
+
+-- The second map, of bits 0 and 1 alone (3) and not 0 (5), and then its fields in bit order; where it is absent, no field.
+unfoldable pub parseSecond : Bool → List ℕ → Read Second
+parseSecond present bs =
+    andRead (parseField present 3 0 4 0 bs) (λ map rest.
+    andRead (parseTop (bit 0 map) rest) (λ a rest.
+    andRead (parseTop (bit 1 map) rest) (λ b rest. accepted (record { a = a; b = b }, rest))))
+
 -- The head fields, and the map, whose last two bits stand for the rule lists.
 pub record Head : Type 0 where
   pub map : ℕ
@@ -92,30 +119,41 @@ pub record Head : Type 0 where
   pub k : ℕ
   pub start : ℕ
   pub target : ℕ
+  pub second : Second
   pub a : ℕ
   pub b : ℕ
 
--- The head after its map, G and K: the two states, and the first symbols.
+-- The first symbols, after the fields of the head before them.
+abbrev pub parseFirsts : ℕ → ℕ → ℕ → ℕ → ℕ → Second → List ℕ → Read Head
+parseFirsts map g k start target second bs =
+    andRead (parseField (bit 4 map) 3 0 16 0 bs) (λ a rest.
+    andRead (parseField (bit 5 map) 3 0 16 0 rest) (λ b rest.
+    accepted (record { map = map; g = g; k = k; start = start; target = target; second = second; a = a; b = b }, rest)))
+
+-- The head after its map, G and K: the two states, what a second map names, and the first symbols.
 abbrev pub parseHeadRest : ℕ → ℕ → ℕ → List ℕ → Read Head
 parseHeadRest map g k bs =
     andRead (parseField (bit 2 map) 3 0 g 0 bs) (λ start rest.
-    andRead (parseRanged 3 0 g rest) (λ target rest.
-    andRead (parseField (bit 4 map) 3 0 16 0 rest) (λ a rest.
-    andRead (parseField (bit 5 map) 3 0 16 0 rest) (λ b rest.
-    accepted (record { map = map; g = g; k = k; start = start; target = target; a = a; b = b }, rest)))))
+    andRead (parseTarget g rest) (λ target rest.
+    andRead (parseSecond (announces target) rest) (λ second rest.
+    parseFirsts map g k start (stateOf target) second rest)))
 
--- The head: the map, whose bit 3 stands (2), and the head fields in bit order.
-unfoldable pub parseHead : List ℕ → Read Head
-parseHead bs =
+-- The map, whose bit 3 stands (2), G and K, and then the rest of the head, as it is read.
+abbrev pub headBy : (ℕ → ℕ → ℕ → List ℕ → Read Head) → List ℕ → Read Head
+headBy readRest bs =
     andRead (parseByte bs) (λ map rest.
     need 2 (bit 3 map)
     (andRead (parseField (bit 0 map) 3 1 5 4 rest) (λ g rest.
-    andRead (parseField (bit 1 map) 3 1 4 2 rest) (λ k rest. parseHeadRest map g k rest))))
+    andRead (parseField (bit 1 map) 3 1 4 2 rest) (λ k rest. readRest map g k rest))))
 
--- A thread with a first symbol and these rules; the unused places are zero.
-abbrev pub threadFrom : ℕ → List Rule → Thread
-threadFrom first rs =
-    record { first = record { 0 = first }; count = length rs; rules = rs ++ replicate (64 - length rs) zeroRule }
+-- The head: the map and the head fields in bit order.
+unfoldable pub parseHead : List ℕ → Read Head
+parseHead bs = headBy parseHeadRest bs
+
+-- A thread with a first symbol, a top and these rules; the unused places are zero.
+abbrev pub threadFrom : ℕ → Top → List Rule → Thread
+threadFrom first top rs =
+    record { first = record { 0 = first }; top = top; count = length rs; rules = rs ++ replicate (64 - length rs) zeroRule }
 
 -- The model of a head and two lists of rules.
 abbrev pub modelOf : Head → List Rule → List Rule → Model
@@ -125,16 +163,19 @@ modelOf h ra rb =
       k = h .k;
       start = record { 0 = h .start };
       target = record { 0 = h .target };
-      a = threadFrom (h .a) ra;
-      b = threadFrom (h .b) rb;
+      a = threadFrom (h .a) (h .second .a) ra;
+      b = threadFrom (h .b) (h .second .b) rb;
     }
+
+-- The model of a head that was read, and of A's rules and B's after it.
+abbrev pub modelAfter : Head → List ℕ → Read Model
+modelAfter h bs =
+    andRead (parseRules (bit 6 (h .map)) (h .g) bs) (λ ra rest.
+    andRead (parseRules (bit 7 (h .map)) (h .g) rest) (λ rb rest. accepted (modelOf h ra rb, rest)))
 
 -- The record at the front of a list: the head, then A's rules and B's.
 unfoldable pub parseFront : List ℕ → Read Model
-parseFront bs =
-    andRead (parseHead bs) (λ h rest.
-    andRead (parseRules (bit 6 (h .map)) (h .g) rest) (λ ra rest.
-    andRead (parseRules (bit 7 (h .map)) (h .g) rest) (λ rb rest. accepted (modelOf h ra rb, rest))))
+parseFront bs = andRead (parseHead bs) modelAfter
 
 -- Nothing is left after the last field (6).
 abbrev pub ended : Model → List ℕ → Read Model

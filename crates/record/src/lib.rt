@@ -2,6 +2,7 @@
 use model::Model;
 use model::Right;
 use model::Rule;
+use model::Top;
 ghost use mathlib.Core.Path.{_≡_};
 ghost use lib.ListN.{length};
 ghost use Rattle.record.specs.Held.{readingOf};
@@ -12,6 +13,7 @@ ghost use Rattle.record.specs.Written.{writtenOf, storeOf, Survives};
 mod field;
 pub mod reader;
 mod rules;
+mod targets;
 mod zero;
 
 // What a whole record says, or the refusal's number.
@@ -70,7 +72,7 @@ pub fn write(m: Model, store: &mut [u8]) -> Written
     if fault != 0 {
         return Written::Refused(fault);
     }
-    let mut buffer = [0u8; 649];
+    let mut buffer = [0u8; 652];
     let n = writer::put_record(&mut buffer, m);
     if store.len() < n {
         return Written::Refused(7);
@@ -93,6 +95,36 @@ pub enum Part {
     Refused(u8),
 }
 
+// The top that a thread is asked for, and the place after it.
+pub struct TopAt {
+    pub top: Top,
+    pub at: usize,
+}
+
+// The top, or the refusal's number.
+pub enum TopPart {
+    Read(TopAt),
+    Refused(u8),
+}
+
+// What the fields of a second map say: the tops of A and of B.
+pub struct Second {
+    pub a: Top,
+    pub b: Top,
+}
+
+// The same, and the place after them.
+pub struct SecondAt {
+    pub second: Second,
+    pub at: usize,
+}
+
+// The second map's fields, or the refusal's number.
+pub enum SecondPart {
+    Read(SecondAt),
+    Refused(u8),
+}
+
 // The head fields with the map, and the place after them.
 pub struct Fields {
     pub map: u8,
@@ -100,6 +132,7 @@ pub struct Fields {
     pub k: u8,
     pub start: u8,
     pub target: u8,
+    pub second: Second,
     pub a: u8,
     pub b: u8,
     pub at: usize,

@@ -4,16 +4,20 @@ use crate::Front;
 use crate::HeadPart;
 use crate::Part;
 use crate::RuleList;
+use crate::SecondPart;
 use crate::Taken;
 use crate::field::byte_at;
 use crate::field::field;
-use crate::field::ranged;
 use crate::rules::read_rules;
+use crate::targets::read_second;
+use crate::targets::read_target;
+use crate::targets::state_of;
 use crate::zero::zero_model;
 use model::Model;
 use model::Shared;
 use model::Symbol;
 use model::Thread;
+use model::Top;
 ghost use mathlib.Core.Path.{_≡_};
 ghost use Prim.Native.Nat.{_≤_};
 ghost use lib.ListN.{length, drop};
@@ -43,13 +47,16 @@ pub fn front(bytes: &[u8]) -> Front
         Taken::At(x) => x,
         Taken::Refused(n) => return refusal(n),
     };
+    let second = h.second;
+    let top_a = second.a;
+    let top_b = second.b;
     let model = Model {
         g: h.g,
         k: h.k,
         start: Shared(h.start),
         target: Shared(h.target),
-        a: thread(h.a, list_a),
-        b: thread(h.b, list_b),
+        a: thread(h.a, top_a, list_a),
+        b: thread(h.b, top_b, list_b),
     };
     Front {
         answer: Taken::At(from + taken_b),
@@ -68,13 +75,14 @@ fn refusal(n: u8) -> Front
 }
 
 // A thread with the rules that were read.
-fn thread(first: u8, l: RuleList) -> Thread
+fn thread(first: u8, top: Top, l: RuleList) -> Thread
     requires { ⌜ Padded (l .count) (l .rules) ⌝ }
-    ensures { λ r. ⌜ r ≡ threadFrom first (listed l) ⌝ }
+    ensures { λ r. ⌜ r ≡ threadFrom first top (listed l) ⌝ }
 {
     let rules = l.rules;
     Thread {
         first: Symbol(first),
+        top,
         count: l.count,
         rules,
     }
@@ -103,7 +111,7 @@ fn read_head(s: &[u8]) -> HeadPart
     read_head_rest(s, k.at, map, g.byte, k.byte)
 }
 
-// The head after G and K: the two states, and the first symbols.
+// The head after G and K: the two states, what a second map names, and the first symbols.
 fn read_head_rest(s: &[u8], at: usize, map: u8, g: u8, k: u8) -> HeadPart
     requires { ⌜ at ≤ length (now s) ⌝ }
     ensures { λ r. ⌜ Reads (now (s .entry)) (headPartOf r) (parseHeadRest map g k (drop at (now (s .entry)))) ⌝ }
@@ -112,11 +120,15 @@ fn read_head_rest(s: &[u8], at: usize, map: u8, g: u8, k: u8) -> HeadPart
         Part::Read(x) => x,
         Part::Refused(n) => return HeadPart::Refused(n),
     };
-    let target = match ranged(s, start.at, 3, 0, g) {
+    let target = match read_target(s, start.at, g) {
         Part::Read(x) => x,
         Part::Refused(n) => return HeadPart::Refused(n),
     };
-    let a = match field(s, target.at, map / 16 % 2 == 1, 3, 0, 16, 0) {
+    let named = match read_second(s, target.at, 128 <= target.byte) {
+        SecondPart::Read(x) => x,
+        SecondPart::Refused(n) => return HeadPart::Refused(n),
+    };
+    let a = match field(s, named.at, map / 16 % 2 == 1, 3, 0, 16, 0) {
         Part::Read(x) => x,
         Part::Refused(n) => return HeadPart::Refused(n),
     };
@@ -124,12 +136,14 @@ fn read_head_rest(s: &[u8], at: usize, map: u8, g: u8, k: u8) -> HeadPart
         Part::Read(x) => x,
         Part::Refused(n) => return HeadPart::Refused(n),
     };
+    let second = named.second;
     HeadPart::Read(Fields {
         map,
         g,
         k,
         start: start.byte,
-        target: target.byte,
+        target: state_of(target.byte),
+        second,
         a: a.byte,
         b: b.byte,
         at: b.at,

@@ -3,6 +3,7 @@ use model::Model;
 use model::Shared;
 use model::Symbol;
 use model::Thread;
+use model::Top;
 use model::ZERO_RULE;
 ghost use mathlib.Core.Path.{_≡_};
 ghost use Rattle.record.specs.Held.{zeroModel};
@@ -13,6 +14,7 @@ pub fn zero_model() -> Model
 {
     let t = Thread {
         first: Symbol(0),
+        top: Top::Any,
         count: 0,
         rules: [ZERO_RULE; 64],
     };

@@ -105,6 +105,24 @@ fn counts() -> Tally {
     t.counted(agrees(&bytes, 4))
 }
 
+// What document 02 says of second maps: tops named for A, for B and for both, and each refusal in its order.
+fn second_maps() -> Tally {
+    let mut t = Tally::new();
+    t = t.counted(agrees(b"\x08\x80\x01\x05", 0));
+    t = t.counted(agrees(b"\x08\x83\x02\x00", 0));
+    t = t.counted(agrees(b"\x38\x81\x03\x05\x0F\x01\x02", 0));
+    t = t.counted(agrees(b"\x08\x80", 1));
+    t = t.counted(agrees(b"\x08\x80\x00", 5));
+    t = t.counted(agrees(b"\x08\x80\x04", 3));
+    t = t.counted(agrees(b"\x08\x80\x81\x05", 3));
+    t = t.counted(agrees(b"\x08\x84\x00", 3));
+    t = t.counted(agrees(b"\x08\x80\x01", 1));
+    t = t.counted(agrees(b"\x08\x80\x01\x10", 3));
+    t = t.counted(agrees(b"\x08\x80\x03\x05", 1));
+    t = t.counted(agrees(b"\x08\x80\x03\x05\x10", 3));
+    t.counted(agrees(b"\x08\x80\x01\x05\x00", 6))
+}
+
 // One case of the file after another: a record with its length, and its answer.
 fn corpus(s: &[u8]) -> Tally {
     let mut t = Tally::new();
@@ -122,15 +140,18 @@ fn corpus(s: &[u8]) -> Tally {
     t
 }
 
-// The cases of the file, which the store has room for.
-fn file(store: &mut [u8]) {
-    let n = vectors::load(b"records.bin", store);
-    corpus(&store[0..n]).report(b"records.bin");
+// The cases of a file, which the store has room for.
+fn file(name: &[u8], store: &mut [u8]) {
+    let n = vectors::load(name, store);
+    corpus(&store[0..n]).report(name);
 }
 
+// longest.bin has the longest record, of 652 bytes, and the same with a byte less and with one more.
 fn main() {
     document().report(b"document 01");
     counts().report(b"rule counts");
-    let mut store = [0u8; 270000];
-    file(&mut store);
+    second_maps().report(b"second maps");
+    let mut store = [0u8; 100000];
+    file(b"longest.bin", &mut store);
+    file(b"records.bin", &mut store);
 }

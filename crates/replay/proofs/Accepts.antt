@@ -6,14 +6,14 @@ use mathlib.Core.Logic.{_↔_}
 use mathlib.Core.Path.{_≡_, refl, sym, ap}
 use Prim.Native.Nat.{ℕ, _≤_}
 use native.Mathlib.Omega.{arith}
-use lib.Dec.{T, eqb}
+use lib.Dec.{T}
 use lib.ListN.{length}
 use Rattle.model.specs.declared.Model.{Model}
 use Rattle.model.specs.declared.Shared.{Shared}
 use Rattle.model.specs.Results.{refused, accepted, unless, firstOf}
 use Rattle.model.specs.Schedules.{bytesOf, stepsOf}
 use Rattle.model.specs.Valid.{faultOf}
-use Rattle.model.specs.Walk.{Step, Config, Walked, startOf, walk}
+use Rattle.model.specs.Walk.{Step, Config, Walked, startOf, walk, atTarget}
 use Rattle.model.proofs.Checks.{both-pass}
 use Rattle.model.proofs.Results.{undue}
 use Rattle.model.proofs.Stores.{length-bytes, steps-bytes, bytes-steps}
@@ -32,12 +32,12 @@ apart {X} {n} {g} {reached} e = let z : _≡_ {A = ℕ} 0 1 = cc in absurd (omeg
 
 -- What is accepted was walked to its last state.
 walked : (m : Model) (w : Walked) {g : Shared} {reached : Bool} → replayedBy m w ≡ Accepted g reached
-    → (c : Config) × (w ≡ accepted c) × (c .shared ≡ g .0) × (reached ≡ eqb (g .0) (m .target .0))
+    → (c : Config) × (w ≡ accepted c) × (c .shared ≡ g .0) × (reached ≡ atTarget m (g .0) (c .stacks))
 walked m (refused n) e = apart e
 walked m (accepted c) {g} {reached} e =
     let shared : record { 0 = c .shared } ≡ g = cc in
     let same : c .shared ≡ g .0 = ap (λ (s : Shared). s .0) shared in
-    let test : reached ≡ eqb (c .shared) (m .target .0) = cc in
+    let test : reached ≡ atTarget m (c .shared) (c .stacks) = cc in
     (c, refl, same, rw (← same) test)
 
 -- Replay accepts exactly the legal schedules, with the last state of their runs.
@@ -58,7 +58,8 @@ accepts m bs g reached = (to, from)
           steps = stepsOf bs;
           written = sym same;
           most = omega (arith, length-bytes (stepsOf bs), ap length same, z .1);
-          leads = record { last = w .0; walked = u .1; ends = w .2 };
+          stacks = w .0 .stacks;
+          leads = record { turn = w .0 .turn; walked = rw (w .2) at (u .1) };
           target = w .3;
         }
 
@@ -70,6 +71,5 @@ accepts m bs g reached = (to, from)
           passed (sizeFits (bytesOf (l .steps))) (fits (l .steps) (l .most)),
           steps-bytes (l .steps),
           l .leads .walked,
-          l .leads .ends,
           l .target,
         )

@@ -10,7 +10,7 @@ use Rattle.model.specs.Results.{refused, accepted, unless, refuse, firstOf}
 use Rattle.model.specs.Runs.{Leads}
 use Rattle.model.specs.Schedules.{bytesOf, stepsOf, mostBytes, mostSteps}
 use Rattle.model.specs.Valid.{Valid, faultOf}
-use Rattle.model.specs.Walk.{Step, Walked, startOf, walk}
+use Rattle.model.specs.Walk.{Stacks, Step, Walked, startOf, walk, atTarget}
 use Rattle.replay.specs.declared.Replayed.{Replayed}
 use Rattle.replay.specs.declared.Replayed.the-variants.{Accepted, Refused}
 
@@ -22,21 +22,22 @@ sizeFits bytes = eqb (length bytes % 2) 0 && leb (length bytes) mostBytes
 abbrev pub sizeRefusal : Model → List ℕ → ℕ
 sizeRefusal m bytes = firstOf (faultOf m ∷ refuse 8 (sizeFits bytes) ∷ [])
 
--- What a walk's end says: the last shared state, and whether it is the target; or the refusal, the walk's being 9 or 10.
+-- What a walk's end says: the last shared state, and whether the run ends at the target; or the refusal, the walk's being 9 or 10.
 abbrev pub replayedBy : Model → Walked → Replayed
 replayedBy m (refused n) = Refused n
-replayedBy m (accepted c) = Accepted (record { 0 = c .shared }) (eqb (c .shared) (m .target .0))
+replayedBy m (accepted c) = Accepted (record { 0 = c .shared }) (atTarget m (c .shared) (c .stacks))
 
 -- The answer: what is refused before the walk, or what the walk from the start comes to.
 unfoldable pub replayOf : Model → List ℕ → Replayed
 replayOf m bytes = replayedBy m (unless (sizeRefusal m bytes) (walk m (startOf m) (stepsOf bytes)))
 
--- Bytes are a legal schedule of at most 4,095 steps of a valid model, whose last shared state is q; `reached` says whether that
--- is the target. Replay accepts just those (a law).
+-- Bytes are a legal schedule of at most 4,095 steps of a valid model, whose last shared state is q; `reached` says whether its run
+-- ends at the target, under the tops that are named. Replay accepts just those (a law).
 pub record Legally (m : Model) (bytes : List ℕ) (q : ℕ) (reached : Bool) : Type 0 where
   pub valid : Valid m
   pub steps : List Step
   pub written : bytes ≡ bytesOf steps
   pub most : length steps ≤ mostSteps
-  pub leads : Leads m steps q
-  pub target : reached ≡ eqb q (m .target .0)
+  pub stacks : Stacks
+  pub leads : Leads m steps q stacks
+  pub target : reached ≡ atTarget m q stacks

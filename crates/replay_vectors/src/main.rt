@@ -2,7 +2,7 @@
 use replay::Replayed;
 use vectors::Tally;
 
-// A schedule of the model that a record holds gets this answer: 0 with the last shared state and whether it is the target,
+// A schedule of the model that a record holds gets this answer: 0 with the last shared state and whether its run ends at the target,
 // or a refusal's number.
 fn agrees(bytes: &[u8], schedule: &[u8], answer: u8, last: u8, target: bool) -> bool {
     let reading = record::read(bytes);
@@ -31,6 +31,37 @@ fn document() -> Tally {
     // A's stack is empty after its step: B goes on, and A takes no step.
     t = t.counted(agrees(&two, &[0, 1, 1, 0], 0, 2, false));
     t.counted(agrees(&two, &[0, 1, 1, 0, 2, 2], 10, 0, false))
+}
+
+// Yes needs the tops too: at the start, where A's stack is empty, and where a 0 lies below the one that A's last step removes.
+fn tops() -> Tally {
+    let top_a =
+        *b"\xC8\x83\x01\x00\x03\x06\x00\x00\x00\x01\x00\x01\x01\x20\x03\x01\x03\x10\x02\x00";
+    let tops =
+        *b"\xC8\x83\x03\x00\x01\x03\x06\x00\x00\x00\x01\x00\x01\x01\x20\x03\x01\x03\x10\x02\x00";
+    let once = [0, 0, 0, 1, 1, 0, 2, 2];
+    let twice = [0, 0, 0, 0, 0, 1, 1, 0, 2, 2];
+    let mut t = Tally::new();
+    t = t.counted(agrees(b"\x08\x80\x01\x00", &[], 0, 0, true));
+    t = t.counted(agrees(b"\x08\x80\x02\x01", &[], 0, 0, false));
+    t = t.counted(agrees(
+        b"\x4B\x02\x01\x81\x01\x00\x01\x01\x00\x01",
+        &[0, 0],
+        0,
+        1,
+        false,
+    ));
+    t = t.counted(agrees(
+        b"\x4B\x02\x01\x81\x02\x00\x01\x01\x00\x01",
+        &[0, 0],
+        0,
+        1,
+        true,
+    ));
+    t = t.counted(agrees(&top_a, &once, 0, 3, false));
+    t = t.counted(agrees(&top_a, &twice, 0, 3, true));
+    t = t.counted(agrees(&top_a, &twice[..6], 0, 1, false));
+    t.counted(agrees(&tops, &twice, 0, 3, false))
 }
 
 // The longest schedules: 4,095 steps that push, or that keep the top; one step more is refused.
@@ -82,6 +113,7 @@ fn file(store: &mut [u8]) {
 
 fn main() {
     document().report(b"document 01");
+    tops().report(b"tops");
     longest().report(b"longest schedules");
     let mut store = [0u8; 370000];
     file(&mut store);

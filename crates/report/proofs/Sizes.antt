@@ -12,7 +12,7 @@ use Rattle.model.specs.Lines.{powers}
 use Rattle.model.specs.Results.{accepted}
 use Rattle.model.specs.Runs.{Leads}
 use Rattle.model.specs.Schedules.{mostSteps}
-use Rattle.model.specs.Walk.{ownerOf, threadOf, Config, Step, stepFrom, walk}
+use Rattle.model.specs.Walk.{ownerOf, threadOf, Config, Step, stepFrom, walk, Stacks}
 use Rattle.model.specs.declared.ThreadId.{ThreadId}
 use Rattle.model.specs.declared.ThreadId.the-variants.{A, B}
 use Rattle.model.proofs.Inside.{applies-iff}
@@ -49,7 +49,7 @@ walk-short {m} f (s ∷ ss) c e =
     simp length-append (omega arith)
 
 -- The whole text of a schedule.
-pub found-short : {m : Model} {ss : List Step} {n q : ℕ} → Fits m → Leads m ss q → length ss ≡ n → n ≤ mostSteps
+pub found-short : {m : Model} {ss : List Step} {n q : ℕ} {σ : Stacks} → Fits m → Leads m ss q σ → length ss ≡ n → n ≤ mostSteps
     → length (line foundWord n ++ stepLines ss) ≤ longestText
 found-short {m} {ss} {n} f l e h =
     let steps = walk-short f ss _ (l .walked) in

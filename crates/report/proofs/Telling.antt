@@ -64,7 +64,7 @@ tells-clear {m} {table = table} j t =
 -- There is room for the text of the schedule.
 pub found-room : {m : Model} {n : ℕ} {old new : List ℕ} → Valid m → n ≤ mostSteps → (s : Stored (Reaches m) n 0 old new) → 2 * n ≤ length old
     → length (line foundWord n ++ stepLines (stepsOf (take (2 * n) new))) ≤ longestText
-found-room {m} v h s l = rw (stored-steps s l) (found-short (valid-fits m .0 v) (s .run) (s .count) h)
+found-room {m} v h s l = rw (stored-steps s l) (found-short (valid-fits m .0 v) (s .run .leads) (s .count) h)
 
 -- The line of a refusal is short.
 pub refused-short : (n : ℕ) → n < 256 → length (line refusedWord n) ≤ 13

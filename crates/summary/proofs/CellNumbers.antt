@@ -30,11 +30,11 @@ pub record Offset (m g γ d x : ℕ) : Type 0 where
   pub part : m ≤ 2
   pub state : g < 4
   pub symbol : γ ≤ 16
-  pub dest : d < 8
-  pub offset : x < (8 - d) * width m
+  pub dest : d < 12
+  pub offset : x < (12 - d) * width m
 
 -- The lanes of one destination are such offsets.
-pub lanes-fit : (m d : ℕ) → d < 8 → width m ≤ (8 - d) * width m
+pub lanes-fit : (m d : ℕ) → d < 12 → width m ≤ (12 - d) * width m
 lanes-fit zero d h = omega arith
 lanes-fit (suc m) d h = omega arith
 
@@ -84,20 +84,20 @@ alike (suc m) g γ d l g′ γ′ d′ x p q r e =
     omega arith
 
 -- The cells that the table starts with.
-pub blank-cell : (k : ℕ) → blank k ≤ cap → (k < first) × (k % 8 ≡ 4 + k / 136)
+pub blank-cell : (k : ℕ) → blank k ≤ cap → (k < first) × (k % 12 ≡ 4 + k / 204)
 unfolding blank
 blank-cell k h =
     elim (decLt k first) [
-      | yes i ↦ elim (ℕ-discrete (k % 8) (4 + k / 136)) [
+      | yes i ↦ elim (ℕ-discrete (k % 12) (4 + k / 204)) [
         | yes e ↦ (i, e)
-        | no e ↦ absurd (omega (arith, rw (lt-ltb k first i, ne-eqb (k % 8) (4 + k / 136) e) at h))
+        | no e ↦ absurd (omega (arith, rw (lt-ltb k first i, ne-eqb (k % 12) (4 + k / 204) e) at h))
       ]
       | no i ↦ absurd (omega (arith, rw (le-ltb k first (omega arith)) at h))
     ]
 
 -- They are those of staying in place.
-pub blank-dest : (g γ d k : ℕ) → γ ≤ 16 → d < 8 → plain g γ d ≡ k → k % 8 ≡ 4 + k / 136 → d ≡ 4 + g
+pub blank-dest : (g γ d k : ℕ) → γ ≤ 16 → d < 12 → plain g γ d ≡ k → k % 12 ≡ 4 + k / 204 → d ≡ 4 + g
 blank-dest g γ d k h i e b =
-    let q : k / 136 ≡ g = omega arith in
-    let r : k % 8 ≡ d = omega arith in
+    let q : k / 204 ≡ g = omega arith in
+    let r : k % 12 ≡ d = omega arith in
     omega arith

@@ -6,7 +6,8 @@ use lib.ListN.{length, length-append}
 use Rattle.model.specs.declared.Right.{Right}
 use Rattle.model.specs.declared.Right.the-variants.{Remove, Swap, Push}
 use Rattle.model.specs.declared.Symbol.{Symbol}
-use Rattle.summary.specs.Stretch.{End, pop, stay, Stretch}
+use Rattle.model.specs.declared.Top.{Top}
+use Rattle.summary.specs.Stretch.{End, pop, stay, OnTop, Stretch}
 use Rattle.summary.specs.Table.{cap, Uses}
 
 module _ {C S : Type 0} (Move : C → ℕ → S → Right → C → Type 0) (Switch : C → C → Type 0) where
@@ -14,9 +15,9 @@ module _ {C S : Type 0} (Move : C → ℕ → S → Right → C → Type 0) (Swi
   abbrev pub Reach : C → ℕ → End C → ℕ → Type 0
   Reach c γ d v = (us : List S) × Uses Move Switch c γ d us × (min (length us) cap ≤ v)
 
-  -- Staying takes no step.
-  pub here-reach : (c : C) (γ v : ℕ) → Reach c γ (stay c) v
-  here-reach c γ v = ([], λ rest. Stretch.here, omega arith)
+  -- Staying under a top that will do takes no step.
+  pub here-reach : (top : Top) (c : C) (γ v : ℕ) → OnTop top γ → Reach c γ (stay top c) v
+  here-reach top c γ v o = ([], λ rest. Stretch.here o, omega arith)
 
   -- A rule that takes the symbol away.
   pub remove-reach : {c c₁ : C} {γ : ℕ} {s : S} (v : ℕ) → 1 ≤ v → Move c γ s Remove c₁ → Reach c γ (pop c₁) v
@@ -38,8 +39,8 @@ module _ {C S : Type 0} (Move : C → ℕ → S → Right → C → Type 0) (Swi
       (s ∷ (us ++ ws), λ rest. Stretch.both m (one rest) (t .1 rest), omega (arith, r .2, t .2, length-append us ws))
 
   -- A rule that pushes, where the first symbol stays.
-  pub above-reach : {c c₁ q : C} {γ : ℕ} {s : S} {a b : Symbol} {y : ℕ} (v : ℕ) → min (1 + y) cap ≤ v
-      → Move c γ s (Push a b) c₁ → Reach c₁ (a .0) (stay q) y → Reach c γ (stay q) v
+  pub above-reach : {top : Top} {c c₁ q : C} {γ : ℕ} {s : S} {a b : Symbol} {y : ℕ} (v : ℕ) → min (1 + y) cap ≤ v
+      → Move c γ s (Push a b) c₁ → Reach c₁ (a .0) (stay top q) y → Reach c γ (stay top q) v
   above-reach {s = s} v h m r = (s ∷ r .0, λ rest. Stretch.above m (r .1 rest), omega (arith, r .2))
 
   -- A change of control.

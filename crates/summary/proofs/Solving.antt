@@ -34,18 +34,35 @@ pub alike : {P Q : Edge → Type 0} {bound : ℕ} {t : List ℕ} → ((e : Edge)
     → Solved P bound t → Solved Q bound t
 alike h k s = record { derived = λ i l. wider h (s .derived i l); low = s .low; closed = λ e q. s .closed e (k e q) }
 
--- The first part, from a blank one.
-pub solves-first : {W : Edge → Type 0} {bound : ℕ} {t u v : List ℕ}
-    → ((e : Edge) → W e → Span 0 bound bound e) → Reset 0 bound t u → Closes W u v → Solved W bound v
-solves-first {W} {bound} {t} {u} {v} spans r c =
-    record {
-      derived = λ k h. inward bound (λ e w. (spans e w .a, spans e w .b)) (λ e w. w) start h (c .derived k);
-      low = λ k h. rw (r .inside k (omega arith) h) at (c .low k);
-      closed = c .closed;
-    }
-  where
-    start : (k : ℕ) → k < bound → From W blank k (cell u k)
-    start k h = rw (r .inside k (omega arith) h) (kept k)
+-- The first part, from a blank one: edges between parts that are 0 once, then others until nothing changes.
+module _ {O W : Edge → Type 0} {bound : ℕ} {t u v z : List ℕ} {changes : ℕ} (once : (e : Edge) → O e → Span 0 bound bound e)
+    (own : (e : Edge) → W e → Span 0 bound bound e) (r : Reset 0 bound t u)
+    (zeros : (e : Edge) → O e → (cell u (e .a) ≡ 0) × (cell u (e .b) ≡ 0)) (f : Relaxed O u v changes) (c : Closes W v z) where
+  -- What is 0 stays so.
+  zero-still : (k : ℕ) → cell u k ≡ 0 → (cell v k ≡ cell u k) × (cell z k ≡ cell v k)
+  zero-still k e = (omega (arith, f .low k), omega (arith, f .low k, c .low k))
+
+  pub solves-first : Solved (λ e. O e ⊎ W e) bound z
+  solves-first = record { derived = derived; low = low; closed = closed }
+    where
+      start : (k : ℕ) → k < bound → From (λ e. O e ⊎ W e) blank k (cell u k)
+      start k h = rw (r .inside k (omega arith) h) (kept k)
+
+      between : (k : ℕ) → k < bound → From (λ e. O e ⊎ W e) blank k (cell v k)
+      between k h = inward bound (λ e o. (once e o .a, once e o .b)) (λ e. inl) start h (f .derived k)
+
+      derived : (k : ℕ) → k < bound → From (λ e. O e ⊎ W e) blank k (cell z k)
+      derived k h = inward bound (λ e w. (own e w .a, own e w .b)) (λ e. inr) between h (c .derived k)
+
+      low : (k : ℕ) → k < bound → cell z k ≤ blank k
+      low k h = rw (r .inside k (omega arith) h) at (le-trans (c .low k) (f .low k))
+
+      closed : (e : Edge) → O e ⊎ W e → EdgeHolds z e
+      closed e (inl o) =
+          let a = zero-still (e .a) (zeros e o .0) in
+          let b = zero-still (e .b) (zeros e o .1) in
+          still (c .low) (a .1) (b .1) (f .closed e o (a .0) (b .0))
+      closed e (inr w) = c .closed e w
 
 -- The next part: blank, then edges from the parts before it once, then its own edges until nothing changes.
 module _ {S O W : Edge → Type 0} {low high end : ℕ} {t u v z : List ℕ} {changes : ℕ} (lh : low ≤ high) (he : high ≤ end)

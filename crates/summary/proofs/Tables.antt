@@ -7,7 +7,8 @@ use lib.ListN.{length}
 use Rattle.model.specs.declared.Right.{Right}
 use Rattle.model.specs.declared.Right.the-variants.{Remove, Swap, Push}
 use Rattle.model.specs.declared.Symbol.{Symbol}
-use Rattle.summary.specs.Stretch.{End, pop, stay, endOf, Stretch}
+use Rattle.model.specs.declared.Top.{Top}
+use Rattle.summary.specs.Stretch.{End, pop, stay, endOf, OnTop, Asks, Stretch}
 use Rattle.summary.specs.Table.{cap}
 
 -- The new symbols of a right side are symbols of the table.
@@ -28,18 +29,24 @@ module _ {C S : Type 0} (Move : C → ℕ → S → Right → C → Type 0) (Swi
     pub moves : {c c₁ : C} {γ : ℕ} {s : S} {x : Right} → Ctl c → Move c γ s x c₁ → Ctl c₁ × Symbols Sym x
     pub switches : {c c₁ : C} → Ctl c → Switch c c₁ → Ctl c₁
 
+module _ {C S : Type 0} (Move : C → ℕ → S → Right → C → Type 0) (Switch : C → C → Type 0)
+    (Ctl : C → Type 0) (Sym : ℕ → Type 0) (Ask : Top → Type 0) where
+  -- A destination of the table.
+  abbrev pub Dest : End C → Type 0
+  Dest d = Ctl (endOf d) × Asks Ask d
+
   -- The entries are closed under each way that a stretch can go on.
   pub record Closed (T : C → ℕ → End C → ℕ) : Type 0 where
-    pub here : (c : C) (γ : ℕ) → Ctl c → Sym γ → AtMost (T c γ (stay c)) 0
+    pub here : (top : Top) (c : C) (γ : ℕ) → Ctl c → Sym γ → Ask top → OnTop top γ → AtMost (T c γ (stay top c)) 0
     pub remove : {c c₁ : C} {γ : ℕ} {s : S} → Ctl c → Sym γ → Move c γ s Remove c₁ → AtMost (T c γ (pop c₁)) 1
-    pub swap : {c c₁ : C} {γ : ℕ} {s : S} {a : Symbol} (d : End C) → Ctl c → Sym γ → Ctl (endOf d)
+    pub swap : {c c₁ : C} {γ : ℕ} {s : S} {a : Symbol} (d : End C) → Ctl c → Sym γ → Dest d
         → Move c γ s (Swap a) c₁ → T c₁ (a .0) d ≤ cap → AtMost (T c γ d) (1 + T c₁ (a .0) d)
-    pub both : {c c₁ : C} {γ : ℕ} {s : S} {a b : Symbol} (q : C) (d : End C) → Ctl c → Sym γ → Ctl q → Ctl (endOf d)
+    pub both : {c c₁ : C} {γ : ℕ} {s : S} {a b : Symbol} (q : C) (d : End C) → Ctl c → Sym γ → Ctl q → Dest d
         → Move c γ s (Push a b) c₁ → T c₁ (a .0) (pop q) ≤ cap → T q (b .0) d ≤ cap
         → AtMost (T c γ d) (1 + T c₁ (a .0) (pop q) + T q (b .0) d)
-    pub above : {c c₁ : C} {γ : ℕ} {s : S} {a b : Symbol} (q : C) → Ctl c → Sym γ → Ctl q
-        → Move c γ s (Push a b) c₁ → T c₁ (a .0) (stay q) ≤ cap → AtMost (T c γ (stay q)) (1 + T c₁ (a .0) (stay q))
-    pub change : {c c₁ : C} (γ : ℕ) (d : End C) → Ctl c → Sym γ → Ctl (endOf d)
+    pub above : {c c₁ : C} {γ : ℕ} {s : S} {a b : Symbol} (top : Top) (q : C) → Ctl c → Sym γ → Ctl q → Ask top
+        → Move c γ s (Push a b) c₁ → T c₁ (a .0) (stay top q) ≤ cap → AtMost (T c γ (stay top q)) (1 + T c₁ (a .0) (stay top q))
+    pub change : {c c₁ : C} (γ : ℕ) (d : End C) → Ctl c → Sym γ → Dest d
         → Switch c c₁ → T c₁ γ d ≤ cap → AtMost (T c γ d) (T c₁ γ d)
 
   -- A stretch ends at a control of the table, and its entry is reached by no more steps than it has.
@@ -48,28 +55,30 @@ module _ {C S : Type 0} (Move : C → ℕ → S → Right → C → Type 0) (Swi
     pub reached : T c γ d ≤ cap
     pub most : T c γ d + length rest ≤ length ss
 
-  pub bounded : {T : C → ℕ → End C → ℕ} → Ranged → Closed T → {c : C} {γ : ℕ} {d : End C} {ss rest : List S}
-      → Ctl c → Sym γ → Stretch Move Switch c γ d ss rest → Bounded T c γ d ss rest
-  bounded R K {c} {γ} p q Stretch.here = let e = K .here c γ p q in record { inside = p; reached = e .reached; most = omega (arith, e .most) }
-  bounded R K p q (Stretch.remove m) =
+  pub bounded : {T : C → ℕ → End C → ℕ} → Ranged Move Switch Ctl Sym → Closed T → {c : C} {γ : ℕ} {d : End C} {ss rest : List S}
+      → Ctl c → Sym γ → Asks Ask d → Stretch Move Switch c γ d ss rest → Bounded T c γ d ss rest
+  bounded R K {c} {γ} p q k (Stretch.here {top = top} o) =
+      let e = K .here top c γ p q k o in
+      record { inside = p; reached = e .reached; most = omega (arith, e .most) }
+  bounded R K p q k (Stretch.remove m) =
       let e = K .remove p q m in record { inside = R .moves p m .0; reached = e .reached; most = omega (arith, e .most) }
-  bounded R K {d = d} p q (Stretch.swap m r) =
+  bounded R K {d = d} p q k (Stretch.swap m r) =
       let i = R .moves p m in
-      let h = bounded R K (i .0) (i .1) r in
-      let e = K .swap d p q (h .inside) m (h .reached) in
+      let h = bounded R K (i .0) (i .1) k r in
+      let e = K .swap d p q (h .inside, k) m (h .reached) in
       record { inside = h .inside; reached = e .reached; most = omega (arith, e .most, h .most) }
-  bounded R K {d = d} p q (Stretch.both {q = u} m r t) =
+  bounded R K {d = d} p q k (Stretch.both {q = u} m r t) =
       let i = R .moves p m in
-      let h = bounded R K (i .0) (i .1 .0) r in
-      let k = bounded R K (h .inside) (i .1 .1) t in
-      let e = K .both u d p q (h .inside) (k .inside) m (h .reached) (k .reached) in
-      record { inside = k .inside; reached = e .reached; most = omega (arith, e .most, h .most, k .most) }
-  bounded R K p q (Stretch.above {q = u} m r) =
+      let h = bounded R K (i .0) (i .1 .0) tt r in
+      let j = bounded R K (h .inside) (i .1 .1) k t in
+      let e = K .both u d p q (h .inside) (j .inside, k) m (h .reached) (j .reached) in
+      record { inside = j .inside; reached = e .reached; most = omega (arith, e .most, h .most, j .most) }
+  bounded R K p q k (Stretch.above {top = top} {q = u} m r) =
       let i = R .moves p m in
-      let h = bounded R K (i .0) (i .1 .0) r in
-      let e = K .above u p q (h .inside) m (h .reached) in
+      let h = bounded R K (i .0) (i .1 .0) k r in
+      let e = K .above top u p q (h .inside) k m (h .reached) in
       record { inside = h .inside; reached = e .reached; most = omega (arith, e .most, h .most) }
-  bounded R K {γ = γ} {d = d} p q (Stretch.change s r) =
-      let h = bounded R K (R .switches p s) q r in
-      let e = K .change γ d p q (h .inside) s (h .reached) in
+  bounded R K {γ = γ} {d = d} p q k (Stretch.change s r) =
+      let h = bounded R K (R .switches p s) q k r in
+      let e = K .change γ d p q (h .inside, k) s (h .reached) in
       record { inside = h .inside; reached = e .reached; most = omega (arith, e .most, h .most) }

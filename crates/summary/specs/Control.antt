@@ -5,12 +5,15 @@ use mathlib.Core.Path.{_≡_}
 use Prim.Native.Nat.{ℕ, zero, suc, _+_, _-_, _≤_, _<_}
 use lib.Dec.{T, leb}
 use Rattle.model.specs.declared.Right.{Right}
+use Rattle.model.specs.declared.Symbol.{Symbol}
 use Rattle.model.specs.declared.Thread.{Thread}
+use Rattle.model.specs.declared.Top.{Top}
+use Rattle.model.specs.declared.Top.the-variants.{Any, Named}
 use Rattle.model.specs.Rules.{ruleAt, applies}
 use Rattle.model.specs.Walk.{Step}
-use Rattle.summary.specs.Cells.{plain, lane, laneOf, first, second}
+use Rattle.summary.specs.Cells.{plain, lane, laneOf, first, second, staysOf}
 use Rattle.summary.specs.Edges.{cell}
-use Rattle.summary.specs.Stretch.{End, pop, stay, endOf}
+use Rattle.summary.specs.Stretch.{End, pop, stay, endOf, Asks}
 use Rattle.summary.specs.Table.{unreached, Exact}
 
 -- A control: how many turn ends of the thread have passed, and the shared state.
@@ -38,10 +41,10 @@ pub record Switches (ends : ℕ → TurnEnd) (n : ℕ) (c d : Control) : Type 0 
   pub enter : d .shared ≡ ends (c .passed) .enter
   pub passed : d .passed ≡ suc (c .passed)
 
--- The number of a destination: the pops at a state are 0 to 3, the stays 4 to 7.
+-- The number of a destination: the pops at a state are 0 to 3, the stays under any top 4 to 7, those under the named top 8 to 11.
 abbrev pub dest : End Control → ℕ
 dest (pop c) = c .shared
-dest (stay c) = 4 + c .shared
+dest (stay top c) = staysOf top + c .shared
 
 -- The cell of a stretch with so many turn ends inside; with two, in the table that is solved for the first of them.
 abbrev pub cellOf : (ℕ → TurnEnd) → ℕ → Control → ℕ → ℕ → ℕ
@@ -60,12 +63,21 @@ entry ends table c γ d =
 abbrev pub InTable : ℕ → ℕ → Control → Type 0
 InTable g n c = (c .passed ≤ n) × (c .shared < g)
 
+-- The tops that a table for a top has destinations for: any top will do, or the one that is named.
+pub data Known : Top → Top → Type 0 where
+  any : {top : Top} → Known top Any
+  named : {s : Symbol} → Known (Named s) (Named s)
+
+-- A destination of a table for a top, with g states and n turn ends.
+abbrev pub EndInTable : Top → ℕ → ℕ → End Control → Type 0
+EndInTable top g n d = InTable g n (endOf d) × Asks (Known top) d
+
 -- The states of n turn ends are below g.
 abbrev pub Inside : ℕ → ℕ → (ℕ → TurnEnd) → Type 0
 Inside g n ends = (j : ℕ) → j < n → (ends j .leave < g) × (ends j .enter < g)
 
--- Every entry of the table is exact: the capped least number of steps of the stretches of the thread along any line with
+-- Every entry of the table for a top is exact: the capped least number of steps of the stretches of the thread along any line with
 -- these turn ends, whatever the numbers of its turns.
-pub record Summed (t : Thread) (g n : ℕ) (ends : ℕ → TurnEnd) (table : List ℕ) : Type 0 where
-  pub exact : (turnOf : ℕ → ℕ) (c : Control) (γ : ℕ) (d : End Control) → InTable g n c → γ ≤ 16 → InTable g n (endOf d)
+pub record Summed (t : Thread) (top : Top) (g n : ℕ) (ends : ℕ → TurnEnd) (table : List ℕ) : Type 0 where
+  pub exact : (turnOf : ℕ → ℕ) (c : Control) (γ : ℕ) (d : End Control) → InTable g n c → γ ≤ 16 → EndInTable top g n d
       → Exact (Moves t turnOf) (Switches ends n) c γ d (entry ends table c γ d)

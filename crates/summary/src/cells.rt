@@ -6,28 +6,28 @@ ghost use lib.ListN.{length};
 ghost use Rattle.summary.specs.Cells.{plain, lane, second, blank, Reset};
 
 // Where the part with one turn end inside starts.
-pub const FIRST: usize = 544;
+pub const FIRST: usize = 816;
 
 // Where the part with two starts.
-pub const SECOND: usize = 9248;
+pub const SECOND: usize = 13872;
 
 // Where the table ends.
-pub const SIZE: usize = 17952;
+pub const SIZE: usize = 26928;
 
 // A cell that is 0, for edges that have one part.
 pub const REST: usize = 4;
 
 // The cell of a stretch within one turn: from a state with a symbol on top to a destination.
 pub fn plain_cell(q: usize, top: usize, d: usize) -> usize
-    requires { ⌜ (q < 4) × (top < 17) × (d < 8) ⌝ }
+    requires { ⌜ (q < 4) × (top < 17) × (d < 12) ⌝ }
     ensures { λ r. ⌜ r ≡ plain q top d ⌝ }
 {
-    (q * 17 + top) * 8 + d
+    (q * 17 + top) * 12 + d
 }
 
 // The first of its sixteen lanes in the part that starts at `base`.
 pub fn lane_cell(base: usize, q: usize, top: usize, d: usize) -> usize
-    requires { ⌜ (base ≤ second) × (q < 4) × (top < 17) × (d < 8) ⌝ }
+    requires { ⌜ (base ≤ second) × (q < 4) × (top < 17) × (d < 12) ⌝ }
     ensures { λ r. ⌜ r ≡ lane base q top d ⌝ }
 {
     base + plain_cell(q, top, d) * 16
@@ -52,5 +52,9 @@ fn blank_at(at: usize) -> u64
     if FIRST <= at {
         return UNREACHED;
     }
-    if at % 8 == 4 + at / 136 { 0 } else { UNREACHED }
+    if at % 12 == 4 + at / 204 {
+        0
+    } else {
+        UNREACHED
+    }
 }

@@ -2,7 +2,7 @@
 use crate::cells::FIRST;
 use crate::cells::SECOND;
 use crate::cells::lane_cell;
-use crate::edges::row;
+use crate::edges::usual_row;
 use model::Right;
 use model::Rule;
 ghost use mathlib.Core.Path.{_≡_};
@@ -13,9 +13,9 @@ ghost use Rattle.summary.specs.Cells.{lane, size, first, second, CrossRu
 ghost use Rattle.summary.specs.Edges.{Relaxed, Row, Below};
 
 // The edges of a rule whose first turn end is the one of lane l. How many cells have fallen.
-pub fn cross_rule(table: &mut [u64], l: usize, g: usize, r: Rule) -> u64
-    requires { ⌜ (length (now table) ≡ size) × (l < 16) × (g ≤ 4) × RuleFits g r ⌝ }
-    ensures { λ x. ⌜ Relaxed (CrossRule l g r) (now (table .entry)) (now (table .exit)) x × (x ≤ 512) ⌝ }
+pub fn cross_rule(table: &mut [u64], l: usize, dests: usize, g: usize, r: Rule) -> u64
+    requires { ⌜ (length (now table) ≡ size) × (l < 16) × (dests ≤ 12) × (g ≤ 4) × RuleFits g r ⌝ }
+    ensures { λ x. ⌜ Relaxed (CrossRule dests l g r) (now (table .entry)) (now (table .exit)) x × (x ≤ 768) ⌝ }
 {
     let p = r.before.0 as usize;
     let top = r.symbol.0 as usize;
@@ -24,7 +24,17 @@ pub fn cross_rule(table: &mut [u64], l: usize, g: usize, r: Rule) -> u64
     match right {
         Right::Remove => 0,
         Right::Swap(_) => 0,
-        Right::Push(a, b) => cross_pushes(table, l, g, p, top, h, a.0 as usize, b.0 as usize),
+        Right::Push(a, b) => cross_pushes(
+            table,
+            l,
+            dests,
+            g,
+            p,
+            top,
+            h,
+            a.0 as usize,
+            b.0 as usize,
+        ),
     }
 }
 
@@ -32,6 +42,7 @@ pub fn cross_rule(table: &mut [u64], l: usize, g: usize, r: Rule) -> u64
 fn cross_pushes(
     table: &mut [u64],
     l: usize,
+    dests: usize,
     g: usize,
     p: usize,
     top: usize,
@@ -40,23 +51,24 @@ fn cross_pushes(
     b: usize,
 ) -> u64
     requires { ⌜
-        (length (now table) ≡ size) × (l < 16) × (g ≤ 4) × (p < 4) × (top < 17) × (h < 4) × (a < 17) × (b < 17)
+        (length (now table) ≡ size) × (l < 16) × (dests ≤ 12) × (g ≤ 4) × (p < 4) × (top < 17) × (h < 4) × (a < 17) × (b < 17)
         ⌝ }
     ensures { λ x. ⌜
-        Relaxed (Below g (λ q. Row 1 (lane second p top 0) (lane first h a q + l) (lane first q b 0) 128))
+        Relaxed (Below g (λ q. Row 1 (lane second p top 0) (lane first h a q + l) (lane first q b 0) (dests * 16)))
         (now (table .entry)) (now (table .exit)) x
-        × (x ≤ 128 * g)
+        × (x ≤ 192 * g)
         ⌝ }
 {
     let mut changes = 0;
     let mut q = 0;
     while q < g {
-        changes += row(
+        changes += usual_row(
             table,
             1,
             lane_cell(SECOND, p, top, 0),
             lane_cell(FIRST, h, a, q) + l,
             lane_cell(FIRST, q, b, 0),
+            dests * 16,
             128,
         );
         q += 1;

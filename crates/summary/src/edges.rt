@@ -28,6 +28,25 @@ pub fn row(table: &mut [u64], w: u64, to: usize, a: usize, b: usize, count: usiz
     changes
 }
 
+// The same, where the count is mostly the usual one: to the compiler that is a number, and a loop whose end it knows is faster.
+pub fn usual_row(
+    table: &mut [u64],
+    w: u64,
+    to: usize,
+    a: usize,
+    b: usize,
+    count: usize,
+    usual: usize,
+) -> u64
+    requires { ⌜ (w ≤ 1) × (a < length (now table)) × (to + count ≤ length (now table)) × (b + count ≤ length (now table)) ⌝ }
+    ensures { λ r. ⌜ Relaxed (Row w to a b count) (now (table .entry)) (now (table .exit)) r × (r ≤ count) ⌝ }
+{
+    if count == usual {
+        return row(table, w, to, a, b, usual);
+    }
+    row(table, w, to, a, b, count)
+}
+
 // The lesser of a count and of what an edge offers, whose first part and weight are wx.
 pub fn better(wx: u64, y: u64, old: u64) -> u64
     requires { ⌜ wx ≤ cap + 1 ⌝ }

@@ -3,6 +3,7 @@ use crate::cells::REST;
 use crate::cells::lane_cell;
 use crate::cells::plain_cell;
 use crate::edges::row;
+use crate::edges::usual_row;
 use model::Right;
 use model::Rule;
 ghost use mathlib.Core.Logic.{_⊎_};
@@ -14,9 +15,9 @@ ghost use Rattle.summary.specs.Cells.{plain, lane, size, second, LaneRul
 ghost use Rattle.summary.specs.Edges.{Relaxed, Row, Below};
 
 // The edges of a rule in the part that starts at `base`. How many cells have fallen.
-pub fn lane_rule(table: &mut [u64], base: usize, g: usize, r: Rule) -> u64
-    requires { ⌜ (length (now table) ≡ size) × (base ≤ second) × (g ≤ 4) × RuleFits g r ⌝ }
-    ensures { λ x. ⌜ Relaxed (LaneRule base g r) (now (table .entry)) (now (table .exit)) x × (x ≤ 1088) ⌝ }
+pub fn lane_rule(table: &mut [u64], base: usize, dests: usize, g: usize, r: Rule) -> u64
+    requires { ⌜ (length (now table) ≡ size) × (base ≤ second) × (8 ≤ dests) × (dests ≤ 12) × (g ≤ 4) × RuleFits g r ⌝ }
+    ensures { λ x. ⌜ Relaxed (LaneRule dests base g r) (now (table .entry)) (now (table .exit)) x × (x ≤ 1664) ⌝ }
 {
     let p = r.before.0 as usize;
     let top = r.symbol.0 as usize;
@@ -24,23 +25,25 @@ pub fn lane_rule(table: &mut [u64], base: usize, g: usize, r: Rule) -> u64
     let right = r.right;
     match right {
         Right::Remove => 0,
-        Right::Swap(a) => row(
+        Right::Swap(a) => usual_row(
             table,
             1,
             lane_cell(base, p, top, 0),
             REST,
             lane_cell(base, h, a.0 as usize, 0),
+            dests * 16,
             128,
         ),
         Right::Push(a, b) => {
-            let below = lane_pushes(table, base, g, p, top, h, a.0 as usize, b.0 as usize);
+            let below = lane_pushes(table, base, dests, g, p, top, h, a.0 as usize, b.0 as usize);
             below
-                + row(
+                + usual_row(
                     table,
                     1,
                     lane_cell(base, p, top, 4),
                     REST,
                     lane_cell(base, h, a.0 as usize, 4),
+                    (dests - 4) * 16,
                     64,
                 )
         }
@@ -52,6 +55,7 @@ pub fn lane_rule(table: &mut [u64], base: usize, g: usize, r: Rule) -> u64
 fn lane_pushes(
     table: &mut [u64],
     base: usize,
+    dests: usize,
     g: usize,
     p: usize,
     top: usize,
@@ -60,27 +64,28 @@ fn lane_pushes(
     b: usize,
 ) -> u64
     requires { ⌜
-        (length (now table) ≡ size) × (base ≤ second) × (g ≤ 4) × (p < 4) × (top < 17) × (h < 4) × (a < 17) × (b < 17)
+        (length (now table) ≡ size) × (base ≤ second) × (dests ≤ 12) × (g ≤ 4) × (p < 4) × (top < 17) × (h < 4) × (a < 17) × (b < 17)
         ⌝ }
     ensures { λ x. ⌜
-        Relaxed (Below g (λ q e. Row 1 (lane base p top 0) (plain h a q) (lane base q b 0) 128 e
-        ⊎ Below 8 (λ d. Row 1 (lane base p top d) (plain q b d) (lane base h a q) 16) e))
+        Relaxed (Below g (λ q e. Row 1 (lane base p top 0) (plain h a q) (lane base q b 0) (dests * 16) e
+        ⊎ Below dests (λ d. Row 1 (lane base p top d) (plain q b d) (lane base h a q) 16) e))
         (now (table .entry)) (now (table .exit)) x
-        × (x ≤ 256 * g)
+        × (x ≤ 384 * g)
         ⌝ }
 {
     let mut changes = 0;
     let mut q = 0;
     while q < g {
-        let after = row(
+        let after = usual_row(
             table,
             1,
             lane_cell(base, p, top, 0),
             plain_cell(h, a, q),
             lane_cell(base, q, b, 0),
+            dests * 16,
             128,
         );
-        let before = lane_pops(table, base, p, top, q, b, lane_cell(base, h, a, q));
+        let before = lane_pops(table, base, dests, p, top, q, b, lane_cell(base, h, a, q));
         changes += after + before;
         q += 1;
     }
@@ -91,6 +96,7 @@ fn lane_pushes(
 fn lane_pops(
     table: &mut [u64],
     base: usize,
+    dests: usize,
     p: usize,
     top: usize,
     q: usize,
@@ -98,16 +104,16 @@ fn lane_pops(
     from: usize,
 ) -> u64
     requires { ⌜
-        (length (now table) ≡ size) × (base ≤ second) × (p < 4) × (top < 17) × (q < 4) × (b < 17) × (from < 17936)
+        (length (now table) ≡ size) × (base ≤ second) × (dests ≤ 12) × (p < 4) × (top < 17) × (q < 4) × (b < 17) × (from < 26912)
         ⌝ }
     ensures { λ x. ⌜
-        Relaxed (Below 8 (λ d. Row 1 (lane base p top d) (plain q b d) from 16)) (now (table .entry)) (now (table .exit)) x
-        × (x ≤ 128)
+        Relaxed (Below dests (λ d. Row 1 (lane base p top d) (plain q b d) from 16)) (now (table .entry)) (now (table .exit)) x
+        × (x ≤ 16 * dests)
         ⌝ }
 {
     let mut changes = 0;
     let mut d = 0;
-    while d < 8 {
+    while d < dests {
         changes += row(
             table,
             1,

@@ -2,7 +2,7 @@
 pub mod cells;
 mod cross;
 pub mod edges;
-mod ends;
+pub mod ends;
 mod lanes;
 mod plain;
 mod search;

@@ -14,40 +14,44 @@ ghost use Rattle.summary.specs.Edges.{Relaxed, Closes};
 ghost use Rattle.summary.specs.Kinds.{RuleEdges, KindFits};
 
 // Passes until one changes nothing.
-pub fn settle(table: &mut [u64], kind: Kind, g: usize, th: Thread)
-    requires { ⌜ (length (now table) ≡ size) × (g ≤ 4) × KindFits kind × ThreadFits g th ⌝ }
-    ensures { λ r. ⌜ Closes (Rules th (RuleEdges kind g)) (now (table .entry)) (now (table .exit)) ⌝ }
+pub fn settle(table: &mut [u64], kind: Kind, dests: usize, g: usize, th: Thread)
+    requires { ⌜
+        (length (now table) ≡ size) × (8 ≤ dests) × (dests ≤ 12) × (g ≤ 4) × KindFits kind × ThreadFits g th
+        ⌝ }
+    ensures { λ r. ⌜ Closes (Rules th (RuleEdges kind dests g)) (now (table .entry)) (now (table .exit)) ⌝ }
 {
     let mut changes = 1;
     while changes != 0 {
-        changes = pass(table, kind, g, th);
+        changes = pass(table, kind, dests, g, th);
     }
 }
 
 // The edges of all rules, once. How many cells have fallen.
-pub fn pass(table: &mut [u64], kind: Kind, g: usize, th: Thread) -> u64
-    requires { ⌜ (length (now table) ≡ size) × (g ≤ 4) × KindFits kind × ThreadFits g th ⌝ }
-    ensures { λ x. ⌜ Relaxed (Rules th (RuleEdges kind g)) (now (table .entry)) (now (table .exit)) x × (x ≤ 1088 * 64) ⌝ }
+pub fn pass(table: &mut [u64], kind: Kind, dests: usize, g: usize, th: Thread) -> u64
+    requires { ⌜
+        (length (now table) ≡ size) × (8 ≤ dests) × (dests ≤ 12) × (g ≤ 4) × KindFits kind × ThreadFits g th
+        ⌝ }
+    ensures { λ x. ⌜ Relaxed (Rules th (RuleEdges kind dests g)) (now (table .entry)) (now (table .exit)) x × (x ≤ 1664 * 64) ⌝ }
 {
     let count = th.count;
     let mut changes = 0;
     let mut i = 0;
     while i < count {
         let rule = th.rules[i];
-        changes += relax(table, kind, g, rule);
+        changes += relax(table, kind, dests, g, rule);
         i += 1;
     }
     changes
 }
 
 // The edges of one rule.
-fn relax(table: &mut [u64], kind: Kind, g: usize, r: Rule) -> u64
-    requires { ⌜ (length (now table) ≡ size) × (g ≤ 4) × KindFits kind × RuleFits g r ⌝ }
-    ensures { λ x. ⌜ Relaxed (RuleEdges kind g r) (now (table .entry)) (now (table .exit)) x × (x ≤ 1088) ⌝ }
+fn relax(table: &mut [u64], kind: Kind, dests: usize, g: usize, r: Rule) -> u64
+    requires { ⌜ (length (now table) ≡ size) × (8 ≤ dests) × (dests ≤ 12) × (g ≤ 4) × KindFits kind × RuleFits g r ⌝ }
+    ensures { λ x. ⌜ Relaxed (RuleEdges kind dests g r) (now (table .entry)) (now (table .exit)) x × (x ≤ 1664) ⌝ }
 {
     match kind {
-        Kind::Plain => plain_rule(table, g, r),
-        Kind::Lanes(base) => lane_rule(table, base, g, r),
-        Kind::Cross(l) => cross_rule(table, l, g, r),
+        Kind::Plain => plain_rule(table, dests, g, r),
+        Kind::Lanes(base) => lane_rule(table, base, dests, g, r),
+        Kind::Cross(l) => cross_rule(table, l, dests, g, r),
     }
 }

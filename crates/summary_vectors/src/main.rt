@@ -1,14 +1,18 @@
 // Closes tables of threads and compares their counts with known ones: those of the doubling thread one by one, and the sum
-// of all cells of a dense thread with a stored one.
+// of all cells of a dense thread with a stored one. No top is named.
 use libc::STDOUT_FILENO;
 use model::Thread;
+use model::Top;
 use record::Answer;
 use summary::CAP;
 use summary::UNREACHED;
+use summary::cells::SECOND;
+use summary::cells::SIZE;
 use vectors::Tally;
 ghost use mathlib.Core.Path.{_≡_};
 ghost use Prim.Native.Nat.{_+_, _≤_, _<_};
 ghost use lib.ListN.{length};
+ghost use Rattle.model.specs.declared.Top.the-variants.{Any};
 ghost use Rattle.model.specs.Fits.{ThreadFits};
 ghost use Rattle.summary.specs.Cells.{size, second, First, Solved};
 
@@ -36,10 +40,10 @@ fn compared(t: &[u64]) -> Tally {
     let mut tally = Tally::new();
     let mut s = 0;
     while s < 13 {
-        tally = tally.counted(count_at(t, 8 * s) == doubled(s));
+        tally = tally.counted(count_at(t, 12 * s) == doubled(s));
         s += 1;
     }
-    tally.counted(count_at(t, 104) == UNREACHED)
+    tally.counted(count_at(t, 156) == UNREACHED)
 }
 
 // The sum of some cells.
@@ -57,13 +61,13 @@ fn total(t: &[u64], from: usize, to: usize) -> u64
 
 // The sum of the last part of the table over all first turn ends.
 fn slices(t: &mut [u64], n: usize, th: Thread) -> u64
-    requires { ⌜ (length (now t) ≡ size) × (n ≤ 4) × ThreadFits n th × Solved (First th n) second (now t) ⌝ }
+    requires { ⌜ (length (now t) ≡ size) × (n ≤ 4) × ThreadFits n th × Solved (First th Any n) second (now t) ⌝ }
 {
     let mut sum = 0;
     let mut e = 0;
     while e < 16 {
-        summary::turns::close_second(t, n, e / 4, e % 4, th);
-        sum = std::num::wrapping_add_u64(sum, total(t, 9248, 17952));
+        summary::turns::close_second(t, n, e / 4, e % 4, Top::Any, th);
+        sum = std::num::wrapping_add_u64(sum, total(t, SECOND, SIZE));
         e += 1;
     }
     sum
@@ -73,9 +77,9 @@ fn slices(t: &mut [u64], n: usize, th: Thread) -> u64
 fn whole(t: &mut [u64], n: usize, th: Thread) -> u64
     requires { ⌜ (length (now t) ≡ size) × (n ≤ 4) × ThreadFits n th ⌝ }
 {
-    summary::turns::close_plain(t, n, th);
-    summary::turns::close_first(t, n, th);
-    let sum = total(t, 0, 9248);
+    summary::turns::close_plain(t, n, Top::Any, th);
+    summary::turns::close_first(t, n, Top::Any, th);
+    let sum = total(t, 0, SECOND);
     std::num::wrapping_add_u64(sum, slices(t, n, th))
 }
 
@@ -93,7 +97,7 @@ fn doubling(t: &mut [u64]) -> Tally
     match answer {
         Answer::Refused(_) => Tally::new(),
         Answer::Accepted => {
-            summary::turns::close_plain(t, m.g as usize, m.a);
+            summary::turns::close_plain(t, m.g as usize, Top::Any, m.a);
             compared(t)
         }
     }
@@ -123,7 +127,7 @@ fn file(t: &mut [u64], store: &mut [u8])
 }
 
 fn main() {
-    let mut t = [0u64; 17952];
+    let mut t = [0u64; SIZE];
     doubling(&mut t).report(b"doubling thread");
     let mut store = [0u8; 700];
     file(&mut t, &mut store);

@@ -4,11 +4,12 @@ ghost use Prim.Native.Nat.{_+_, _/_, _<_, _≤_};
 ghost use lib.ListN.{length};
 ghost use Rattle.model.specs.Rules.{put};
 ghost use Rattle.model.specs.Schedules.{stepsOf};
-ghost use Rattle.model.specs.Walk.{stepFrom, walk};
+ghost use Rattle.model.specs.Walk.{stepFrom, walk, hasTop};
 ghost use Rattle.walk.specs.Stack.{topFirst, configOf, walkedOf, Counted, Room, Starts, GrowsBy, Grows, moveOf, movedOf, Fires};
 use model::Model;
 use model::Right;
 use model::Thread;
+use model::Top;
 
 // Where a walk is: the turn of its last step, the shared state, and how many symbols each stack holds.
 // The stacks themselves are in two buffers, bottom first.
@@ -70,6 +71,22 @@ pub fn steps(start: Walk, m: Model, schedule: &[u8], a: &mut [u8], b: &mut [u8])
         i += 1;
     }
     Stepped::Made(w)
+}
+
+// Whether the stack in a buffer has the top that is asked for. An empty one has none.
+pub fn has_top(top: Top, depth: usize, stack: &[u8]) -> bool
+    requires { ⌜ depth ≤ length (now stack) ⌝ }
+    ensures { λ r. ⌜ r ≡ hasTop top (topFirst depth (now (stack .entry))) ⌝ }
+{
+    match top {
+        Top::Any => true,
+        Top::Named(s) => {
+            if depth == 0 {
+                return false;
+            }
+            stack[depth - 1] == s.0
+        }
+    }
 }
 
 impl Walk {

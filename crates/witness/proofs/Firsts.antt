@@ -8,17 +8,19 @@ use native.Mathlib.Omega.{arith}
 use borrow.Author.Tests.{le-leb, lt-leb}
 use lib.ListN.{length}
 use Rattle.model.specs.declared.Right.{Right}
+use Rattle.model.specs.declared.Top.{Top}
 use Rattle.model.specs.Walk.{Step}
 use Rattle.model.proofs.Inside.{applies-iff}
 use Rattle.costs.specs.Cost.{control}
 use Rattle.costs.specs.Ends.{turnOf}
 use Rattle.costs.specs.Lanes.{cellAt, LaneTo}
 use Rattle.costs.proofs.Entries.{cell-at}
-use Rattle.summary.specs.Control.{Control, Moves, Switches, dest, entry, InTable}
+use Rattle.summary.specs.Control.{Control, Moves, Switches, dest, entry, InTable, EndInTable}
 use Rattle.summary.specs.Edges.{cell}
-use Rattle.summary.specs.Stretch.{End, pop, stay, endOf}
+use Rattle.summary.specs.Stretch.{End, pop, stay}
 use Rattle.summary.specs.Table.{unreached, cap, Exact}
 use Rattle.summary.proofs.Best.{Best, best, exact-closed, here, remove, swap, both, above, change}
+use Rattle.summary.proofs.Joins.{stay-high}
 use Rattle.summary.proofs.Ranging.{Sym, ranged}
 use Rattle.witness.specs.declared.goal.Goal.{Goal}
 use Rattle.witness.specs.Goals.{from, entryOf, movedTo, enteredAt, goneAt, restAt, Splits, TightBy, Tight, EndsAt}
@@ -66,19 +68,19 @@ module _ {tab plan : List ℕ} (w : Setting tab plan) where
 
   -- Every entry of the setting's table is exact.
   pub exact : (c : Control) (γ : ℕ) (d : End Control) → InTable (statesIn plan) (w .n) c → Sym γ
-      → InTable (statesIn plan) (w .n) (endOf d)
+      → EndInTable (w .top) (statesIn plan) (w .n) d
       → Exact (Moves (w .thread) (turnOf (w .id))) (Switches (endsIn plan) (w .n)) c γ d (entry (endsIn plan) tab c γ d)
   exact c γ d p q o = w .summed .exact (turnOf (w .id)) c γ d p q o
 
   -- The first move of a stretch in just as many steps as its entry says.
   first-move : (c : Control) (γ : ℕ) (d : End Control) → InTable (statesIn plan) (w .n) c → Sym γ
-      → InTable (statesIn plan) (w .n) (endOf d) → entry (endsIn plan) tab c γ d ≤ mostSteps
+      → EndInTable (w .top) (statesIn plan) (w .n) d → entry (endsIn plan) tab c γ d ≤ mostSteps
       → Best (Moves (w .thread) (turnOf (w .id))) (Switches (endsIn plan) (w .n)) (entry (endsIn plan) tab)
       (InTable (statesIn plan) (w .n)) c γ d
   first-move c γ d p q o h =
       let R = ranged (turnOf (w .id)) (w .fits) (w .inside) in
       let u = exact c γ d p q o .some (omega arith) in
-      best _ _ _ R (exact-closed _ _ _ R exact) p q (u .1 []) (omega (arith, u .2, ap length (append-nil (u .0))))
+      best _ _ _ R (exact-closed _ _ _ R exact) p q (o .1) (u .1 []) (omega (arith, u .2, ap length (append-nil (u .0))))
 
   -- A rule's move that is tight, found among the plan's rules.
   tight-rule : (g : Goal) (count : ℕ) {s : Step} {x : Right} {c₁ : Control}
@@ -103,7 +105,7 @@ module _ {tab plan : List ℕ} (w : Setting tab plan) where
       → EndsAt w (movedTo g (c₁ .shared) a) d
   moved-stands m s a =
       let i = ranged (turnOf (w .id)) (w .fits) (w .inside) .moves (s .start) m .0 in
-      record { start = (s .start .0, i .1); stop = s .stop; until = s .until; dest = s .dest }
+      record { start = (s .start .0, i .1); stop = s .stop; until = s .until; dest = s .dest; asks = s .asks }
 
   -- So does a turn end.
   pub entered-stands : {g : Goal} {d : End Control} {h : ℕ} → Switches (endsIn plan) (w .n) (from g) (from (enteredAt g h))
@@ -114,6 +116,7 @@ module _ {tab plan : List ℕ} (w : Setting tab plan) where
         stop = s .stop;
         until = s .until;
         dest = s .dest;
+        asks = s .asks;
       }
 
   -- The entry of a goal whose control is given by its parts.
@@ -131,9 +134,9 @@ module _ {tab plan : List ℕ} (w : Setting tab plan) where
       let low : q .shared < 4 = omega (arith, i .1, w .four) in
       let k = at-control (q .passed) (q .shared) y low refl in
       let one : entryOf tab plan (goneAt g y) ≡ entry (endsIn plan) tab (from g) (g .symbol) (pop q) =
-      entry-same {d = pop q} (record { start = s .start; stop = i; until = sym (k .0); dest = sym (k .1) }) in
+      entry-same {d = pop q} (record { start = s .start; stop = i; until = sym (k .0); dest = sym (k .1); asks = tt }) in
       let other : entryOf tab plan (restAt g b y) ≡ entry (endsIn plan) tab q b d =
-      entry-from {d = d} q (record { start = rw (k .0, k .1) i; stop = s .stop; until = s .until; dest = s .dest }) (k .0) (k .1) in
+      entry-from {d = d} q (record { start = rw (k .0, k .1) i; stop = s .stop; until = s .until; dest = s .dest; asks = s .asks }) (k .0) (k .1) in
       Splits.at y (omega (arith, i .0, w .two)) (rw (k .1) (i .1), rw (one, other) e)
 
   -- Each tight first move is a step by some rule, or the end of the turn.
@@ -141,7 +144,7 @@ module _ {tab plan : List ℕ} (w : Setting tab plan) where
       → Best (Moves (w .thread) (turnOf (w .id))) (Switches (endsIn plan) (w .n)) (entry (endsIn plan) tab)
       (InTable (statesIn plan) (w .n)) (from g) (g .symbol) d
       → EndsAt w g d → entry (endsIn plan) tab (from g) (g .symbol) d ≡ count → 0 < count → First g count
-  from-best (here z) s e low = absurd (omega arith)
+  from-best (here o z) s e low = absurd (omega arith)
   from-best {g} {d} {count} (remove m z) s e low =
       step (tight-rule g count m (omega arith, sym (s .until) ∙ m .passed, sym (s .dest)))
   from-best {g} {d} {count} (swap {c₁ = c₁} {a = a} m z) s e low =
@@ -154,10 +157,10 @@ module _ {tab plan : List ℕ} (w : Setting tab plan) where
       ap (λ (c : Control). entry (endsIn plan) tab c (a .0) (pop q))
       (control-is c₁ (g .passed) (c₁ .shared) (sym (m .passed)) refl) in
       step (tight-rule g count m (gone (b .0) (count - 1) t i (omega arith)))
-  from-best {g} {d} {count} (above {c₁ = c₁} {q = q} {a = a} m z) s e low =
-      let f : entryOf tab plan (movedTo g (c₁ .shared) (a .0)) ≡ entry (endsIn plan) tab c₁ (a .0) (stay q) =
-      entry-from {d = stay q} c₁ (moved-stands m s (a .0)) (sym (m .passed)) refl in
-      step (tight-rule g count m (Splits.above (omega (arith, s .dest)) (omega arith)))
+  from-best {g} {d} {count} (above {top = top} {c₁ = c₁} {q = q} {a = a} m z) s e low =
+      let f : entryOf tab plan (movedTo g (c₁ .shared) (a .0)) ≡ entry (endsIn plan) tab c₁ (a .0) (stay top q) =
+      entry-from {d = stay top q} c₁ (moved-stands m s (a .0)) (sym (m .passed)) refl in
+      step (tight-rule g count m (Splits.above (omega (arith, s .dest, stay-high top q)) (omega arith)))
   from-best {g} {d} (change {c₁ = c₁} k z) s e low =
       let next : Switches (endsIn plan) (w .n) (from g) (from (enteredAt g (endsIn plan (g .passed) .enter))) =
       record { more = k .more; leave = k .leave; enter = refl; passed = omega arith } in
@@ -168,4 +171,4 @@ module _ {tab plan : List ℕ} (w : Setting tab plan) where
       → 0 < count → count ≤ mostSteps → First g count
   first {g} {d} {count} s q e low high =
       let f : entry (endsIn plan) tab (from g) (g .symbol) d ≡ count = sym (entry-same s) ∙ e in
-      from-best (first-move (from g) (g .symbol) d (s .start) q (s .stop) (omega arith)) s f low
+      from-best (first-move (from g) (g .symbol) d (s .start) q (s .stop, s .asks) (omega arith)) s f low

@@ -10,12 +10,13 @@ use borrow.Author.Tests.{le-leb, lt-leb}
 use lib.Dec.{leb}
 use lib.ListN.{length}
 use Rattle.model.specs.declared.Model.{Model}
-use Rattle.model.specs.Runs.{Turns, stop, end, move}
+use Rattle.model.specs.declared.Top.{Top}
+use Rattle.model.specs.Runs.{Turns, stop, end, move, EndsUnder}
 use Rattle.model.specs.declared.ThreadId.{ThreadId}
 use Rattle.model.specs.declared.ThreadId.the-variants.{A, B}
-use Rattle.model.specs.Walk.{ownerOf, Stacks, Step}
+use Rattle.model.specs.Walk.{ownerOf, Stacks, startStacks, Step}
 use Rattle.costs.specs.View.{View, stop, skip, end, move}
-use Rattle.costs.proofs.Views.{Merged, none, left, right, merged-views}
+use Rattle.costs.proofs.Views.{Merged, none, left, right, topsOf, under-tops, merged-views}
 use Rattle.witness.specs.Merge.{merged}
 
 -- The turns of steps ascend from turn t on.
@@ -35,14 +36,14 @@ earlier (s ∷ ss) h (k, r) = (le-trans h k, r)
 
 module _ {m : Model} where
   -- A run's steps ascend ..
-  ascends : {t g : ℕ} {σ : Stacks} {line : List ℕ} {ss : List Step} → Turns m t g σ line ss → Ascends t ss
+  ascends : {t g : ℕ} {σ τ : Stacks} {line : List ℕ} {ss : List Step} → Turns m t g σ line ss τ → Ascends t ss
   ascends stop = tt
   ascends {ss = ss} (end r) = earlier ss (omega arith) (ascends r)
   ascends {t} (move e p r) = (le-refl t, ascends r)
 
   -- .. and a view's are the thread's own.
-  owned : {i : ThreadId} {t g : ℕ} {w line : List ℕ} {ss : List Step} → View m i t g w line ss → Owned i ss
-  owned stop = tt
+  owned : {i : ThreadId} {top : Top} {t g : ℕ} {w line : List ℕ} {ss : List Step} → View m i top t g w line ss → Owned i ss
+  owned (stop k) = tt
   owned (skip e v) = owned v
   owned (end e v) = owned v
   owned (move e p v) = (e, owned v)
@@ -80,12 +81,14 @@ by-turn {xs = []} {ys = y ∷ ys} (right r) t a (o, b) (h, k) = rw (by-turn r (y
 by-turn {xs = x ∷ xs} {ys = y ∷ ys} (right r) t a (o, b) (h, k) =
     rw (lt-leb _ _ (before _ _ o (a .0) (first-from r k)), by-turn r (y .turn) a b k)
 
--- Two views of one line, merged by turn, are a run.
-pub merged-turns : {m : Model} {g : ℕ} {σ : Stacks} {line : List ℕ} {xs ys : List Step}
-    → View m A 0 g (σ .a) line xs → View m B 0 g (σ .b) line ys → Turns m 0 g σ line (merged xs ys)
-merged-turns v w =
-    let r = merged-views v w in
-    rw (by-turn (r .merged) 0 (owned v) (owned w) (ascends (r .turns))) at (r .turns)
+-- Two views of one line to the tops that the model names, merged by turn, are a run to them.
+pub merged-turns : {m : Model} {line : List ℕ} {xs ys : List Step}
+    → View m A (m .a .top) 0 (m .start .0) (m .a .first .0 ∷ []) line xs
+    → View m B (m .b .top) 0 (m .start .0) (m .b .first .0 ∷ []) line ys → EndsUnder m line (merged xs ys)
+merged-turns {m} v w =
+    let r = merged-views (topsOf m) {σ = startStacks m} v w in
+    let run = rw (by-turn (r .merged) 0 (owned v) (owned w) (ascends (r .turns))) at (r .turns) in
+    (r .stacks, run, under-tops m (r .stacks) .1 (r .under))
 
 -- Two lists of one length, whichever is taken.
 either : (first : Bool) (xs ys : List Step) {n : ℕ} → length xs ≡ n → length ys ≡ n → length (cond first xs ys) ≡ n

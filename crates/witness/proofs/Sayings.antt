@@ -86,7 +86,7 @@ module _ {tab plan : List ℕ} {g : Goal} (r : Ready tab plan g) where
   gone-ready y h e =
       let f = r .fits in
       let j : y / 4 ≤ 2 = omega arith in
-      let s : y % 4 < 8 = omega arith in
+      let s : y % 4 < 12 = omega arith in
       rw e
       (record {
         size = r .size;

@@ -8,7 +8,9 @@ use native.Mathlib.Nat.{le-refl}
 use native.Mathlib.Omega.{arith}
 use lib.ListN.{length, getD}
 use Rattle.model.specs.declared.Thread.{Thread}
-use Rattle.model.specs.Fits.{ThreadFits}
+use Rattle.model.specs.declared.Top.{Top}
+use Rattle.model.specs.declared.Top.the-variants.{Any, Named}
+use Rattle.model.specs.Fits.{TopFits, ThreadFits}
 use Rattle.model.specs.Lines.{States, digits}
 use Rattle.model.specs.Schedules.{mostSteps, Stored}
 use Rattle.model.specs.declared.ThreadId.{ThreadId}
@@ -17,11 +19,13 @@ use Rattle.costs.specs.Cost.{control, through, pairCost, RunAlong, LeastAlong}
 use Rattle.costs.specs.Ends.{turnOf, endsOf, firstState, lastState}
 use Rattle.costs.proofs.Along.{ends-inside}
 use Rattle.costs.proofs.Values.{full-count}
-use Rattle.costs.proofs.Pairs.{turns-made, idle, pair-cost}
-use Rattle.summary.specs.Control.{Control, TurnEnd, Moves, Switches, entry, Inside}
+use Rattle.costs.proofs.Pairs.{floor-low, turns-made, idle, pair-cost}
+use Rattle.summary.specs.Control.{Control, TurnEnd, Moves, Switches, entry, Known, any, named, Inside}
+use Rattle.summary.specs.Cells.{staysOf}
 use Rattle.summary.specs.Edges.{bestOf}
 use Rattle.summary.specs.Stretch.{pop, stay, Path}
 use Rattle.summary.proofs.Floors.{unfloored}
+use Rattle.summary.proofs.Joins.{stay-high, stays-low}
 use Rattle.summary.proofs.Leasts.{least-as, least-once}
 use Rattle.summary.proofs.Overs.{pops, stays}
 use Rattle.summary.proofs.Relaxing.{better}
@@ -33,9 +37,9 @@ use Rattle.witness.proofs.Writers.{stored-as}
 
 -- A run looks at no turn end but the first n.
 path-ends : {t : Thread} {turn : ℕ → ℕ} {e f : ℕ → TurnEnd} {n : ℕ} → ((j : ℕ) → j < n → e j ≡ f j)
-    → {c d : Control} {w : List ℕ} {ss : List Step}
-    → Path (Moves t turn) (Switches e n) c w ss d → Path (Moves t turn) (Switches f n) c w ss d
-path-ends h Path.stop = Path.stop
+    → {top : Top} {c d : Control} {w : List ℕ} {ss : List Step}
+    → Path (Moves t turn) (Switches e n) top c w ss d → Path (Moves t turn) (Switches f n) top c w ss d
+path-ends h (Path.stop k) = Path.stop k
 path-ends h (Path.move m p) = Path.move m (path-ends h p)
 path-ends h (Path.change {c = c} s p) =
     let k = h (c .passed) (s .more) in
@@ -48,8 +52,13 @@ path-ends h (Path.change {c = c} s p) =
     })
     (path-ends h p)
 
-module _ {t : Thread} {i : ThreadId} {G n : ℕ} {line tab plan : List ℕ} (K : Prepared t i G n line tab plan) (two : n ≤ 2)
-    (fits : ThreadFits G t) (size : length line ≡ 2 * suc n) (states : States G line) where
+-- A table for a top has its destinations.
+known-top : (top : Top) → Known top top
+known-top Any = any
+known-top (Named s) = named
+
+module _ {t : Thread} {top : Top} {i : ThreadId} {G n : ℕ} {line tab plan : List ℕ} (K : Prepared t top i G n line tab plan) (two : n ≤ 2)
+    (fits : ThreadFits G t) (ranged : TopFits top) (size : length line ≡ 2 * suc n) (states : States G line) where
   -- The plan's turn ends are the line's, so states below G.
   pub inside : Inside (statesIn plan) n (endsIn plan)
   inside j h =
@@ -63,6 +72,7 @@ module _ {t : Thread} {i : ThreadId} {G n : ℕ} {line tab plan : List ℕ} (K :
   setting =
       record {
         thread = t;
+        top = top;
         id = i;
         n = n;
         two = two;
@@ -76,7 +86,7 @@ module _ {t : Thread} {i : ThreadId} {G n : ℕ} {line tab plan : List ℕ} (K :
   module _ (g : ℕ) (first : firstState i g line < G) (last : lastState i n line < G) where
     -- The goal of the whole thread.
     abbrev pub whole : Goal
-    whole = record { passed = 0; shared = firstState i g line; symbol = t .first .0; until = n; dest = 4 + lastState i n line }
+    whole = record { passed = 0; shared = firstState i g line; symbol = t .first .0; until = n; dest = staysOf top + lastState i n line }
 
     -- Where it starts and ends.
     abbrev c : Control
@@ -85,13 +95,14 @@ module _ {t : Thread} {i : ThreadId} {G n : ℕ} {line tab plan : List ℕ} (K :
     abbrev d : Control
     d = control n (lastState i n line)
 
-    pub stands : EndsAt setting whole (stay (control n (lastState i n line)))
+    pub stands : EndsAt setting whole (stay top (control n (lastState i n line)))
     stands =
         record {
           start = (omega arith, rw (K .states) first);
           stop = (le-refl n, rw (K .states) last);
           until = refl;
           dest = refl;
+          asks = known-top top;
         }
 
     pub ready : Ready tab plan whole
@@ -105,54 +116,54 @@ module _ {t : Thread} {i : ThreadId} {G n : ℕ} {line tab plan : List ℕ} (K :
                 shared = omega (arith, K .range .states, K .states);
                 symbol = omega (arith, fits .first);
                 until = two;
-                dest = omega (arith, K .range .states, K .states);
+                dest = omega (arith, K .range .states, K .states, stays-low top);
               };
         }
 
     -- Each candidate of the least is a way to write the pair ..
     step : (j s old : ℕ) → j ≤ n → s < statesIn plan → (old ≤ mostSteps → Splits tab plan whole 16 old)
-        → through (endsIn plan) tab c (t .first .0) d (control j s) old ≤ mostSteps
-        → Splits tab plan whole 16 (through (endsIn plan) tab c (t .first .0) d (control j s) old)
+        → through (endsIn plan) tab c (t .first .0) top d (control j s) old ≤ mostSteps
+        → Splits tab plan whole 16 (through (endsIn plan) tab c (t .first .0) top d (control j s) old)
     step j s old b l r =
-        which (entry (endsIn plan) tab c (t .first .0) (pop (control j s))) (entry (endsIn plan) tab (control j s) 16 (stay d)) refl refl
+        which (entry (endsIn plan) tab c (t .first .0) (pop (control j s))) (entry (endsIn plan) tab (control j s) 16 (stay top d)) refl refl
       where
         which : (x y : ℕ) → entry (endsIn plan) tab c (t .first .0) (pop (control j s)) ≡ x
-            → entry (endsIn plan) tab (control j s) 16 (stay d) ≡ y → bestOf 0 x y old ≤ mostSteps
+            → entry (endsIn plan) tab (control j s) 16 (stay top d) ≡ y → bestOf 0 x y old ≤ mostSteps
             → Splits tab plan whole 16 (bestOf 0 x y old)
         which x y p q h =
             ⊎-elim (λ e. rw e (r (rw e at h)))
-            (λ e. gone setting {d = stay d} {q = control j s} 16 (bestOf 0 x y old) stands (b, l) (omega (arith, p, q, e .2)))
+            (λ e. gone setting {d = stay top d} {q = control j s} 16 (bestOf 0 x y old) stands (b, l) (omega (arith, p, q, e .2)))
             (better 0 x y old .which)
 
     -- .. so there is one in just as many steps as the line's least.
-    pub splits : {count : ℕ} → count ≤ mostSteps → LeastAlong t i n g line count → Splits tab plan whole 16 count
+    pub splits : {count : ℕ} → count ≤ mostSteps → LeastAlong t top i n g line count → Splits tab plan whole 16 count
     splits {count} h least =
-        let cost = pair-cost (setting .fits) inside (setting .summed) (turnOf i) c (t .first .0) d (stands .start) (fits .first) (stands .stop) in
-        let same : pairCost (endsIn plan) tab (statesIn plan) n c (t .first .0) d ≡ count =
+        let cost = pair-cost (setting .fits) inside (setting .summed) (turnOf i) c (t .first .0) top d (known-top top) ranged (stands .start) (fits .first) (stands .stop) in
+        let same : pairCost (endsIn plan) tab (statesIn plan) n c (t .first .0) top d ≡ count =
         least-once (least-as (λ ss p. path-ends (λ j l. sym (K .ends j l)) p) (λ ss p. path-ends (K .ends) p) least) cost (omega arith) in
         subst (λ v. Splits tab plan whole 16 v) same
-        (turns-made (endsIn plan) tab c (t .first .0) d (statesIn plan) n (λ (v : ℕ). v ≤ mostSteps → Splits tab plan whole 16 v) step
-        (λ l. Splits.above (omega arith) (entry-same setting stands)) (suc n) (le-refl (suc n)) (omega arith))
+        (turns-made (endsIn plan) tab c (t .first .0) top d (statesIn plan) n (λ (v : ℕ). v ≤ mostSteps → Splits tab plan whole 16 v) step
+        (λ l. Splits.above (stay-high top d) (entry-same setting stands)) (suc n) (le-refl (suc n)) (omega arith))
 
     -- What is written for the pair is a run of the thread along the line.
-    run : {us : List Step} → Pairs setting (from whole) (t .first .0) 16 (stay (control n (lastState i n line))) us
-        → RunAlong t i n g line us
-    run (Pairs.above p) = path-ends (K .ends) (rw append-nil at (stays _ _ {w = []} (p [])))
+    run : {us : List Step} → Pairs setting (from whole) (t .first .0) 16 (stay top (control n (lastState i n line))) us
+        → RunAlong t top i n g line us
+    run (Pairs.above p) = path-ends (K .ends) (rw append-nil at (stays _ _ top {w = []} (p [])))
     run (Pairs.both xs ys p q) =
         path-ends (K .ends)
-        (rw append-nil at (unfloored _ _ 16 (idle (setting .fits) inside (setting .summed) (turnOf i)) (pops _ _ (p (ys ++ [])) (stays _ _ (q [])))
+        (rw append-nil at (unfloored _ _ top 16 (idle (setting .fits) inside (setting .summed) (turnOf i)) (floor-low top ranged) (pops _ _ top (p (ys ++ [])) (stays _ _ top (q [])))
         (t .first .0 ∷ []) refl))
 
     pub written : {count : ℕ} {old new : List ℕ}
-        → Stored (Pairs setting (from whole) (t .first .0) 16 (stay (control n (lastState i n line)))) count 0 old new
-        → Stored (RunAlong t i n g line) count 0 old new
+        → Stored (Pairs setting (from whole) (t .first .0) 16 (stay top (control n (lastState i n line)))) count 0 old new
+        → Stored (RunAlong t top i n g line) count 0 old new
     written r = stored-as (λ us p. run p) r
 
 -- The goal of a whole thread, from the parts of its line.
-pub starts : (i : ThreadId) (n g G v top : ℕ) {s turn e : ℕ} → s ≡ firstState i g (digits G (2 * n + 2) v) → s < G
+pub starts : (f : Top) (i : ThreadId) (n g G v top : ℕ) {s turn e stays : ℕ} → stays ≡ staysOf f → s ≡ firstState i g (digits G (2 * n + 2) v) → s < G
     → turn ≡ turnOf i n → e ≡ getD (digits G (2 * n + 2) v) turn 0 → e < G
-    → Starts i n g (digits G (2 * suc n) v) top G (record { passed = 0; shared = s; symbol = top; until = n; dest = 4 + e })
-starts i n g G v top {s} {turn} {e} a l f b k =
+    → Starts f i n g (digits G (2 * suc n) v) top G (record { passed = 0; shared = s; symbol = top; until = n; dest = stays + e })
+starts f i n g G v top {s} {turn} {e} h a l r b k =
     let p : s ≡ firstState i g (digits G (2 * suc n) v) = rw (full-count n) at a in
-    let q : e ≡ lastState i n (digits G (2 * suc n) v) = rw (f, full-count n) at b in
-    record { goal = rw (p, q); first = rw (← p) l; last = rw (← q) k }
+    let q : e ≡ lastState i n (digits G (2 * suc n) v) = rw (r, full-count n) at b in
+    record { goal = rw (p, q, h); first = rw (← p) l; last = rw (← q) k }

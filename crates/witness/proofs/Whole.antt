@@ -8,11 +8,11 @@ use lib.ListN.{length, take}
 use lib.Seq.{sets, length-take-le}
 use Rattle.model.specs.declared.Model.{Model}
 use Rattle.model.specs.Lines.{digits}
-use Rattle.model.specs.Runs.{Turns}
+use Rattle.model.specs.Runs.{EndsUnder}
 use Rattle.model.specs.Schedules.{mostBytes, mostSteps, bytesOf, stepsOf, Stored}
 use Rattle.model.specs.declared.ThreadId.{ThreadId}
 use Rattle.model.specs.declared.ThreadId.the-variants.{A, B}
-use Rattle.model.specs.Walk.{threadOf, startStacks}
+use Rattle.model.specs.Walk.{threadOf}
 use Rattle.model.proofs.Positions.{length-digits}
 use Rattle.model.proofs.Stores.{stored-steps}
 use Rattle.costs.specs.Cost.{RunAlong, LeastAlong, ViewCost}
@@ -31,10 +31,10 @@ pub fronts-fit : (a b : List ℕ) (x y : ℕ) {n : ℕ} → 2 * x ≤ length a �
 fronts-fit a b x y h k most room = omega (arith, length-take-le (2 * x) a h, length-take-le (2 * y) b k)
 
 -- A thread's least steps along the line, as its writer asks for them.
-pub cost-along : (m : Model) (i : ThreadId) (v cost : ℕ) → 1 ≤ m .k → ViewCost m i (digits (m .g) (2 * m .k) v) cost
-    → LeastAlong (threadOf i m) i (m .k - 1) (m .start .0) (digits (m .g) (2 * suc (m .k - 1)) v) cost
+pub cost-along : (m : Model) (i : ThreadId) (v cost : ℕ) → 1 ≤ m .k → ViewCost m i (threadOf i m .top) (digits (m .g) (2 * m .k) v) cost
+    → LeastAlong (threadOf i m) (threadOf i m .top) i (m .k - 1) (m .start .0) (digits (m .g) (2 * suc (m .k - 1)) v) cost
 cost-along m i v cost k c =
-    view-cost m i (m .k - 1) (digits (m .g) (2 * suc (m .k - 1)) v) cost (length-digits (m .g) (2 * suc (m .k - 1)) v) .1
+    view-cost m i (threadOf i m .top) (m .k - 1) (digits (m .g) (2 * suc (m .k - 1)) v) cost (length-digits (m .g) (2 * suc (m .k - 1)) v) .1
     (rw (rounds (m .k) k) c)
 
 module _ (m : Model) {v x y : ℕ} (k : 1 ≤ m .k) (c : Chosen m v x y) where
@@ -44,16 +44,16 @@ module _ (m : Model) {v x y : ℕ} (k : 1 ≤ m .k) (c : Chosen m v x y) where
 
   -- Both threads' steps, merged, are the line's schedule.
   pub written : {s t a b old new : List ℕ}
-      → Stored (RunAlong (m .a) A (m .k - 1) (m .start .0) (digits (m .g) (2 * suc (m .k - 1)) v)) x 0 s a
-      → Stored (RunAlong (m .b) B (m .k - 1) (m .start .0) (digits (m .g) (2 * suc (m .k - 1)) v)) y 0 t b
+      → Stored (RunAlong (m .a) (m .a .top) A (m .k - 1) (m .start .0) (digits (m .g) (2 * suc (m .k - 1)) v)) x 0 s a
+      → Stored (RunAlong (m .b) (m .b .top) B (m .k - 1) (m .start .0) (digits (m .g) (2 * suc (m .k - 1)) v)) y 0 t b
       → 2 * x ≤ length s → 2 * y ≤ length t
       → new ≡ sets old 0 (bytesOf (merged (stepsOf (take (2 * x) a)) (stepsOf (take (2 * y) b))))
-      → Stored (Turns m 0 (m .start .0) (startStacks m) (digits (m .g) (2 * m .k) v)) (x + y) 0 old new
+      → Stored (EndsUnder m (digits (m .g) (2 * m .k) v)) (x + y) 0 old new
   written {a = a} {b} p q i j e =
       let line : List ℕ = digits (m .g) (2 * suc (m .k - 1)) v in
       let size = length-digits (m .g) (2 * suc (m .k - 1)) v in
-      let one = line-view m A (m .k - 1) (m .start .0) _ line (p .steps) size .1 (p .run) in
-      let other = line-view m B (m .k - 1) (m .start .0) _ line (q .steps) size .1 (q .run) in
+      let one = line-view m A (m .a .top) (m .k - 1) (m .start .0) _ line (p .steps) size .1 (p .run) in
+      let other = line-view m B (m .b .top) (m .k - 1) (m .start .0) _ line (q .steps) size .1 (q .run) in
       record {
         steps = merged (p .steps) (q .steps);
         run = rw (rounds (m .k) k) at (merged-turns one other);

@@ -19,6 +19,7 @@ use Rattle.costs.specs.Cost.{control}
 use Rattle.costs.specs.Ends.{turnOf}
 use Rattle.summary.specs.Control.{Control, Moves, Switches, dest}
 use Rattle.summary.specs.Stretch.{End, pop, stay, Stretch}
+use Rattle.summary.proofs.Joins.{stay-high}
 use Rattle.witness.specs.declared.goal.Goal.{Goal}
 use Rattle.witness.specs.Goals.{from, entryOf, movedTo, enteredAt, goneAt, restAt, Sums, Splits, Tight, EndsAt, Stretches, Pairs}
 use Rattle.witness.specs.Plan.{rulesIn, turnIn, endsIn, ruleIn, Setting}
@@ -89,7 +90,7 @@ module _ {tab plan : List ℕ} (w : Setting tab plan) where
   pub stopped : {g : Goal} {d : End Control} {count : ℕ} (at : ℕ) (old : List ℕ) → EndsAt w g d → g .symbol ≤ 16
       → entryOf tab plan g ≡ count → count ≡ 0 → Stored (Stretches w (from g) (g .symbol) d) count at old old
   stopped {g} {d} {count} at old s q e z =
-      let u = exact w (from g) (g .symbol) d (s .start) q (s .stop) .some (omega (arith, entry-same w s)) in
+      let u = exact w (from g) (g .symbol) d (s .start) q (s .stop, s .asks) .some (omega (arith, entry-same w s)) in
       go (u .0) (u .1) (omega (arith, u .2, entry-same w s))
     where
       go : (us : List Step) → Stretches w (from g) (g .symbol) d us → length us ≡ 0
@@ -139,7 +140,9 @@ module _ {tab plan : List ℕ} (w : Setting tab plan) where
               count = sym (b .0);
               shown = rw add-one at e;
             }
-        go (stay c) s = let b = rw x at (t .2) in absurd (omega (arith, s .dest, moved-stands w (move-of g count r l t) s 0 .start .1, w .four))
+        go (stay top c) s =
+            let b = rw x at (t .2) in
+            absurd (omega (arith, s .dest, stay-high top c, moved-stands w (move-of g count r l t) s 0 .start .1, w .four))
 
     -- Another symbol stands in its place.
     pub swapped : (a : Symbol) → ruleIn plan r .right ≡ Swap a
@@ -176,7 +179,7 @@ module _ {tab plan : List ℕ} (w : Setting tab plan) where
       → Stored (Stretches w (from g) (g .symbol) d) count at old new
       → Stored (Pairs w (from g) (g .symbol) below d) count at old new
   kept {d = pop c} s h r = absurd (omega (arith, s .dest, s .stop .1, w .four))
-  kept {d = stay c} s h r = stored-as (λ us p. Pairs.above p) r
+  kept {d = stay top c} s h r = stored-as (λ us p. Pairs.above p) r
 
   -- A pair whose first symbol is gone at control y.
   pub parted : {g : Goal} {d : End Control} {below count at x : ℕ} {old mid new : List ℕ} (y : ℕ) → EndsAt w g d → count ≤ mostSteps
@@ -189,5 +192,5 @@ module _ {tab plan : List ℕ} (w : Setting tab plan) where
   parted {g} {d} {below} {count} {at} {x} y s high e t one other =
       let i : y / 4 ≤ w .n = omega (arith, in-time tab plan (restAt g below y) (omega (arith, t .1)), s .stop .0, s .until) in
       both-stored (λ xs ys p q. Pairs.both xs ys p q) (omega (arith, t .1))
-      (one (record { start = s .start; stop = (i, t .0); until = refl; dest = refl }))
-      (other (record { start = (i, t .0); stop = s .stop; until = s .until; dest = s .dest }) (omega (arith, t .1)))
+      (one (record { start = s .start; stop = (i, t .0); until = refl; dest = refl; asks = tt }))
+      (other (record { start = (i, t .0); stop = s .stop; until = s .until; dest = s .dest; asks = s .asks }) (omega (arith, t .1)))

@@ -6,9 +6,10 @@ use Rattle.model.specs.declared.ThreadId.the-variants.{A, B}
 use Rattle.costs.specs.Cost.{ViewCost}
 use Rattle.model.specs.Schedules.{mostSteps}
 
--- A full line, by its value, and the least steps of each thread along it: together no more than a schedule has room for.
+-- A full line, by its value, and the least steps of each thread along it to the top that the model names: together no more than a
+-- schedule has room for.
 pub record Chosen (m : Model) (v x y : ℕ) : Type 0 where
   pub low : v < m .g ^ (2 * m .k)
-  pub a : ViewCost m A (digits (m .g) (2 * m .k) v) x
-  pub b : ViewCost m B (digits (m .g) (2 * m .k) v) y
+  pub a : ViewCost m A (m .a .top) (digits (m .g) (2 * m .k) v) x
+  pub b : ViewCost m B (m .b .top) (digits (m .g) (2 * m .k) v) y
   pub most : x + y ≤ mostSteps

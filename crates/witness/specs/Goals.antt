@@ -10,12 +10,13 @@ use Rattle.model.specs.declared.Right.the-variants.{Remove, Swap, Push}
 use Rattle.model.specs.declared.Rule.{Rule}
 use Rattle.model.specs.declared.Symbol.{Symbol}
 use Rattle.model.specs.declared.ThreadId.{ThreadId}
+use Rattle.model.specs.declared.Top.{Top}
 use Rattle.model.specs.Walk.{Step}
 use Rattle.costs.specs.Ends.{turnOf, firstState, lastState}
-use Rattle.summary.specs.Cells.{size}
-use Rattle.summary.specs.Control.{Control, Moves, Switches, dest, cellOf, InTable}
+use Rattle.summary.specs.Cells.{size, staysOf}
+use Rattle.summary.specs.Control.{Control, Moves, Switches, dest, cellOf, InTable, Known}
 use Rattle.summary.specs.Edges.{cell}
-use Rattle.summary.specs.Stretch.{End, pop, stay, endOf}
+use Rattle.summary.specs.Stretch.{End, pop, stay, endOf, Asks}
 use Rattle.summary.specs.Table.{unreached, Uses}
 use Rattle.witness.specs.declared.goal.Goal.{Goal}
 use Rattle.witness.specs.declared.onward.Onward.{Onward}
@@ -54,12 +55,12 @@ pub record GoalFits (goal : Goal) : Type 0 where
   pub shared : goal .shared < 4
   pub symbol : goal .symbol ≤ 16
   pub until : goal .until ≤ 2
-  pub dest : goal .dest < 8
+  pub dest : goal .dest < 12
 
 -- The goal of a whole thread along a full line with n turn ends, where the run starts in q: from its first turn's state with
--- one symbol, to the end of its last turn.
-pub record Starts (id : ThreadId) (n q : ℕ) (line : List ℕ) (γ g : ℕ) (r : Goal) : Type 0 where
-  pub goal : r ≡ record { passed = 0; shared = firstState id q line; symbol = γ; until = n; dest = 4 + lastState id n line }
+-- one symbol, to the end of its last turn under a top.
+pub record Starts (top : Top) (id : ThreadId) (n q : ℕ) (line : List ℕ) (γ g : ℕ) (r : Goal) : Type 0 where
+  pub goal : r ≡ record { passed = 0; shared = firstState id q line; symbol = γ; until = n; dest = staysOf top + lastState id n line }
   pub first : firstState id q line < g
   pub last : lastState id n line < g
 
@@ -109,6 +110,7 @@ pub record EndsAt {table plan : List ℕ} (w : Setting table plan) (goal : Goal)
   pub stop : InTable (statesIn plan) (w .n) (endOf d)
   pub until : endOf d .passed ≡ goal .until
   pub dest : dest d ≡ goal .dest
+  pub asks : Asks (Known (w .top)) d
 
 module _ {table plan : List ℕ} (w : Setting table plan) where
   -- The steps of a stretch in the setting.
@@ -117,6 +119,6 @@ module _ {table plan : List ℕ} (w : Setting table plan) where
 
   -- The steps of a pair: those of its first symbol, which stays; or of its first, until it is gone, and then of its second.
   pub data Pairs (c : Control) (a b : ℕ) : End Control → List Step → Type 0 where
-    above : {e : Control} {us : List Step} → Stretches c a (stay e) us → Pairs c a b (stay e) us
+    above : {top : Top} {e : Control} {us : List Step} → Stretches c a (stay top e) us → Pairs c a b (stay top e) us
     both : {q : Control} {d : End Control} (xs ys : List Step) → Stretches c a (pop q) xs → Stretches q b d ys
         → Pairs c a b d (xs ++ ys)

@@ -10,6 +10,7 @@ use Rattle.model.specs.declared.Right.{Right}
 use Rattle.model.specs.declared.Right.the-variants.{Remove, Swap, Push}
 use Rattle.model.specs.declared.Rule.{Rule}
 use Rattle.model.specs.declared.Thread.{Thread}
+use Rattle.model.specs.declared.Top.{Top}
 use Rattle.model.specs.Fits.{RuleFits, ThreadFits}
 use Rattle.model.specs.Rules.{ruleAt}
 use Rattle.model.specs.declared.ThreadId.{ThreadId}
@@ -92,9 +93,10 @@ pub record Planned (t : Thread) (id : ThreadId) (plan : List ℕ) : Type 0 where
   pub count : rulesIn plan ≡ t .count
   pub rules : (r : ℕ) → r < t .count → ruleIn plan r ≡ ruleAt t r
 
--- The setting of the writers: a thread in range, n turn ends of a line, and the plan and the solved table for them.
+-- The setting of the writers: a thread in range, a top, n turn ends of a line, and the plan and the solved table for them.
 pub record Setting (table plan : List ℕ) : Type 0 where
   pub thread : Thread
+  pub top : Top
   pub id : ThreadId
   pub n : ℕ
   pub two : n ≤ 2
@@ -102,13 +104,13 @@ pub record Setting (table plan : List ℕ) : Type 0 where
   pub fits : ThreadFits (statesIn plan) thread
   pub inside : Inside (statesIn plan) n (endsIn plan)
   pub planned : Planned thread id plan
-  pub summed : Summed thread (statesIn plan) n (endsIn plan) table
+  pub summed : Summed thread top (statesIn plan) n (endsIn plan) table
 
--- The plan of a thread along a full line with n turn ends, and the table that is solved for them.
-pub record Prepared (t : Thread) (id : ThreadId) (g n : ℕ) (line table plan : List ℕ) : Type 0 where
+-- The plan of a thread along a full line with n turn ends, and the table that is solved for them and for a top.
+pub record Prepared (t : Thread) (top : Top) (id : ThreadId) (g n : ℕ) (line table plan : List ℕ) : Type 0 where
   pub size : length table ≡ size
   pub range : InRange plan
   pub planned : Planned t id plan
   pub states : statesIn plan ≡ g
   pub ends : (j : ℕ) → j < n → endsIn plan j ≡ endsOf id line j
-  pub summed : Inside g n (endsIn plan) → Summed t g n (endsIn plan) table
+  pub summed : Inside g n (endsIn plan) → Summed t top g n (endsIn plan) table

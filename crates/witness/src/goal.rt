@@ -4,7 +4,7 @@ ghost use Prim.Native.Nat.{_≤_};
 ghost use Rattle.witness.specs.Goals.{movedTo, enteredAt, goneAt, restAt};
 
 // From `passed` turn ends of the thread and state `shared`, with `symbol` on top, to `until` turn ends and a destination:
-// 0 to 3 is gone at a state, 4 to 7 still there.
+// 0 to 3 is gone at a state, 4 to 7 still there, 8 to 11 still there under the named top.
 pub struct Goal {
     pub passed: usize,
     pub shared: usize,

@@ -11,11 +11,13 @@ use costs::parts::state_at;
 use costs::parts::turn_of;
 use model::Thread;
 use model::ThreadId;
+use model::Top;
 use summary::cells::SIZE;
+use summary::ends::stays_of;
 ghost use mathlib.Core.Path.{_≡_};
 ghost use Prim.Native.Nat.{suc, _*_, _^_, _≤_, _<_};
 ghost use lib.ListN.{length};
-ghost use Rattle.model.specs.Fits.{ThreadFits};
+ghost use Rattle.model.specs.Fits.{TopFits, ThreadFits};
 ghost use Rattle.model.specs.Lines.{digits};
 ghost use Rattle.model.specs.Schedules.{mostSteps, Stored};
 ghost use Rattle.costs.specs.Cost.{RunAlong, LeastAlong};
@@ -23,9 +25,10 @@ ghost use Rattle.summary.specs.Cells.{size};
 ghost use Rattle.witness.specs.Goals.{Starts};
 ghost use Rattle.witness.specs.Plan.{planSize, Prepared};
 
-// Writes a thread's steps along the full line whose value is v, with n turn ends: `count`, the least there are.
+// Writes a thread's steps along the full line whose value is v, with n turn ends, to a top: `count`, the least there are.
 pub fn steps(
     th: Thread,
+    top: Top,
     g: usize,
     n: usize,
     id: ThreadId,
@@ -34,46 +37,58 @@ pub fn steps(
     count: usize,
     out: &mut [u8],
 )
-    requires { ⌜ (1 ≤ g) × (g ≤ 4) × (n ≤ 2) × (start < g) × (v < g ^ (2 * suc n)) × ThreadFits g th ⌝
-        ∗ ⌜
-        LeastAlong th id n start (digits g (2 * suc n) v) count × (count ≤ mostSteps) × (2 * count ≤ length (now out))
+    requires { ⌜
+        (1 ≤ g) × (g ≤ 4) × (n ≤ 2) × (start < g) × (v < g ^ (2 * suc n)) × TopFits top
+        × ThreadFits g th
+        ⌝ ∗ ⌜
+        LeastAlong th top id n start (digits g (2 * suc n) v) count × (count ≤ mostSteps) × (2 * count ≤ length (now out))
         ⌝ }
     ensures { λ _. ⌜
-        Stored (RunAlong th id n start (digits g (2 * suc n) v)) count 0 (now (out .entry)) (now (out .exit))
+        Stored (RunAlong th top id n start (digits g (2 * suc n) v)) count 0 (now (out .entry)) (now (out .exit))
         ⌝ }
 {
     let mut table = [0u64; SIZE];
     let mut plan = [0u8; PLAN_SIZE];
-    prepare(&mut table, &mut plan, th, g, n, id, v);
-    let goal = start_goal(g, n, id, start, v, th.first.0 as usize);
+    prepare(&mut table, &mut plan, th, top, g, n, id, v);
+    let goal = start_goal(top, g, n, id, start, v, th.first.0 as usize);
     pair(&table, &plan, goal, 16, count, out, 0);
 }
 
-// The plan of a thread along a line, and the table solved for the line's turn ends.
+// The plan of a thread along a line, and the table solved for the line's turn ends and a top.
 fn prepare(
     table: &mut [u64],
     plan: &mut [u8],
     th: Thread,
+    top: Top,
     g: usize,
     n: usize,
     id: ThreadId,
     v: usize,
 )
     requires { ⌜ (length (now table) ≡ size) × (length (now plan) ≡ planSize) ⌝
-        ∗ ⌜ (1 ≤ g) × (g ≤ 4) × (n ≤ 2) × (v < g ^ (2 * suc n)) × ThreadFits g th ⌝ }
-    ensures { λ _. ⌜ Prepared th id g n (digits g (2 * suc n) v) (now (table .exit)) (now (plan .exit)) ⌝ }
+        ∗ ⌜ (1 ≤ g) × (g ≤ 4) × (n ≤ 2) × (v < g ^ (2 * suc n)) × TopFits top × ThreadFits g th ⌝ }
+    ensures { λ _. ⌜ Prepared th top id g n (digits g (2 * suc n) v) (now (table .exit)) (now (plan .exit)) ⌝ }
 {
     make(plan, th, g, n, id, v);
     let o = byte(plan, 2);
     let i = byte(plan, 3);
-    solve(table, g, n, o, i, th);
+    solve(table, g, n, o, i, top, th);
 }
 
 // From the state in which the thread's first turn starts, to the end of its last turn with something on its stack, be it the
-// floor.
-fn start_goal(g: usize, n: usize, id: ThreadId, start: usize, v: usize, top: usize) -> Goal
-    requires { ⌜ (1 ≤ g) × (g ≤ 4) × (n ≤ 2) × (start < g) × (v < g ^ (2 * suc n)) ⌝ }
-    ensures { λ r. ⌜ Starts id n start (digits g (2 * suc n) v) top g r ⌝ }
+// floor, under a top that will do.
+fn start_goal(
+    top: Top,
+    g: usize,
+    n: usize,
+    id: ThreadId,
+    start: usize,
+    v: usize,
+    symbol: usize,
+) -> Goal
+    requires { ⌜
+        (1 ≤ g) × (g ≤ 4) × (n ≤ 2) × (start < g) × (v < g ^ (2 * suc n)) ⌝ }
+    ensures { λ r. ⌜ Starts top id n start (digits g (2 * suc n) v) symbol g r ⌝ }
 {
     let len = 2 * n + 2;
     let from = first_state(g, len, v, id, start);
@@ -81,8 +96,8 @@ fn start_goal(g: usize, n: usize, id: ThreadId, start: usize, v: usize, top: usi
     Goal {
         passed: 0,
         shared: from,
-        symbol: top,
+        symbol,
         until: n,
-        dest: 4 + to,
+        dest: stays_of(top) + to,
     }
 }

@@ -41,6 +41,8 @@ same-record {m} {n} s v p q =
       s .k,
       s .start,
       s .target,
+      s .a .top,
+      s .b .top,
       s .a .first,
       s .b .first,
       s .a .count,

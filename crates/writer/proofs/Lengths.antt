@@ -1,4 +1,4 @@
--- How long the record of a valid model is: at most 649 bytes, and one model has as many.
+-- How long the record of a valid model is: at most 652 bytes, and one model has as many.
 use mathlib.Core.Bool.{Bool, true, false, cond}
 use mathlib.Core.List.{List, [], _∷_}
 use mathlib.Core.Path.{_≡_, refl}
@@ -12,9 +12,12 @@ use Rattle.model.specs.declared.Right.{Right}
 use Rattle.model.specs.declared.Right.the-variants.{Remove, Swap, Push}
 use Rattle.model.specs.declared.Rule.{Rule}
 use Rattle.model.specs.declared.Thread.{Thread}
+use Rattle.model.specs.declared.Top.{Top}
+use Rattle.model.specs.declared.Top.the-variants.{Any, Named}
 use Rattle.model.specs.Results.{firstOf}
-use Rattle.model.specs.Valid.{Valid, faultOf, headFault, threadFault, ruleFault, rightFault, symbolFault}
+use Rattle.model.specs.Valid.{Valid, faultOf, headFault, rangeFault, topFault, threadFault, ruleFault, rightFault, symbolFault}
 use Rattle.writer.specs.Writer.{fieldOf, weightOf, symbolsOf, ruleBytes, ruleListOf, rulesOf, mapOf, headBytes, recordOf}
+use Rattle.writer.specs.Writer.{topOf, secondMap, targetBytes}
 
 -- A field has at most one byte.
 field : (d v : ℕ) → length (fieldOf d v) ≤ 1
@@ -48,16 +51,27 @@ thread : (t : Thread) → t .count ≤ 64 → length (rulesOf t) ≤ 321
 unfolding rulesOf
 thread t h = simp length-append (omega (arith, field 0 (t .count), rules (t .count) (t .rules)))
 
--- Seven bytes come before the rules at most.
-head : (m : Model) → length (headBytes m) ≤ 7
+-- A top has at most one byte.
+top : (t : Top) → length (topOf t) ≤ 1
+top Any = omega arith
+top (Named x) = omega arith
+
+-- The target, the second map and its fields have at most four.
+target : (q : ℕ) (a b : Top) → length (targetBytes q a b) ≤ 4
+unfolding targetBytes
+target q a b = simp length-append (omega (arith, field 0 (secondMap a b), top a, top b))
+
+-- Ten bytes come before the rules at most.
+head : (m : Model) → length (headBytes m) ≤ 10
 unfolding headBytes
 head m =
+    let fields = target (m .target .0) (m .a .top) (m .b .top) in
     simp length-append
     (omega
-    (arith, field 4 (m .g), field 2 (m .k), field 0 (m .start .0), field 0 (m .a .first .0), field 0 (m .b .first .0)))
+    (arith, field 4 (m .g), field 2 (m .k), field 0 (m .start .0), fields, field 0 (m .a .first .0), field 0 (m .b .first .0)))
 
--- The record of a valid model has at most 649 bytes, 7 + 2 · 321.
-pub at-most : (m : Model) → Valid m → length (recordOf m) ≤ 649
+-- The record of a valid model has at most 652 bytes, 10 + 2 · 321.
+pub at-most : (m : Model) → Valid m → length (recordOf m) ≤ 652
 unfolding recordOf
 at-most m h =
     let f = valid-fits m .0 h in
@@ -72,7 +86,7 @@ full =
       after = record { 0 = 1 };
       right = Push (record { 0 = 2 }) (record { 0 = 3 });
     } in
-    record { first = record { 0 = 1 }; count = 64; rules = replicate 64 long }
+    record { first = record { 0 = 1 }; top = Named (record { 0 = 1 }); count = 64; rules = replicate 64 long }
 
 -- A model that leaves nothing to absence.
 pub longest : Model
@@ -80,9 +94,9 @@ longest = record { g = 3; k = 1; start = record { 0 = 1 }; target = record { 0 =
 
 -- It is valid, and no record is longer than its own.
 pub longest-valid : Valid longest
-unfolding longest full faultOf firstOf headFault threadFault ruleFault rightFault symbolFault
+unfolding longest full faultOf firstOf headFault rangeFault topFault threadFault ruleFault rightFault symbolFault
 longest-valid = refl
 
-pub longest-length : length (recordOf longest) ≡ 649
-unfolding longest full recordOf mapOf weightOf fieldOf rulesOf ruleListOf ruleBytes headBytes
+pub longest-length : length (recordOf longest) ≡ 652
+unfolding longest full recordOf mapOf weightOf fieldOf rulesOf ruleListOf ruleBytes headBytes targetBytes secondMap
 longest-length = refl

@@ -4,6 +4,7 @@ use mathlib.Core.Path.{_≡_}
 use Prim.Native.Nat.{ℕ, _+_, _≤_, _<_}
 use lib.ListN.{length}
 use lib.Seq.{sets}
+use Rattle.model.specs.declared.Model.{Model}
 use Rattle.model.specs.declared.Rule.{Rule}
 use Rattle.model.specs.declared.Thread.{Thread}
 use Rattle.model.specs.Rules.{ruleAt}
@@ -21,3 +22,9 @@ Halves r = (r .before .0 ≤ 15) × (r .symbol .0 ≤ 15)
 pub record Small (t : Thread) : Type 0 where
   pub count : t .count ≤ 64
   pub halves : (r : ℕ) → r < t .count → Halves (ruleAt t r)
+
+-- A model's target state leaves bit 7 of its byte free, and both threads are small.
+pub record SmallModel (m : Model) : Type 0 where
+  pub target : m .target .0 < 128
+  pub a : Small (m .a)
+  pub b : Small (m .b)

@@ -9,6 +9,8 @@ use Rattle.model.specs.declared.Right.{Right}
 use Rattle.model.specs.declared.Right.the-variants.{Remove, Swap, Push}
 use Rattle.model.specs.declared.Rule.{Rule}
 use Rattle.model.specs.declared.Thread.{Thread}
+use Rattle.model.specs.declared.Top.{Top}
+use Rattle.model.specs.declared.Top.the-variants.{Any, Named}
 
 -- A field's byte, unless it is the default.
 unfoldable pub fieldOf : ℕ → ℕ → List ℕ
@@ -51,11 +53,30 @@ mapOf m =
     weightOf 0 4 (m .g) + weightOf 1 2 (m .k) + weightOf 2 0 (m .start .0) + 8 + weightOf 4 0 (m .a .first .0) +
     weightOf 5 0 (m .b .first .0) + weightOf 6 0 (m .a .count) + weightOf 7 0 (m .b .count)
 
+-- The symbol of a top that is named.
+abbrev pub topOf : Top → List ℕ
+topOf Any = []
+topOf (Named x) = x .0 ∷ []
+
+-- What a top adds to the second map: the weight of its bit, where it is named.
+abbrev pub topWeight : ℕ → Top → ℕ
+topWeight w Any = 0
+topWeight w (Named x) = w
+
+-- The second map, by the tops of A and of B: bit 0 and bit 1.
+unfoldable pub secondMap : Top → Top → ℕ
+secondMap a b = topWeight 1 a + topWeight 2 b
+
+-- The target byte, its bit 7 announcing a second map; then that map and its fields, unless the map is 0.
+unfoldable pub targetBytes : ℕ → Top → Top → List ℕ
+targetBytes target a b =
+    (target + weightOf 7 0 (secondMap a b)) ∷ fieldOf 0 (secondMap a b) ++ topOf a ++ topOf b
+
 -- The map and the head fields.
 unfoldable pub headBytes : Model → List ℕ
 headBytes m =
-    mapOf m ∷ fieldOf 4 (m .g) ++ fieldOf 2 (m .k) ++ fieldOf 0 (m .start .0) ++ m .target .0 ∷
-    fieldOf 0 (m .a .first .0) ++ fieldOf 0 (m .b .first .0)
+    mapOf m ∷ fieldOf 4 (m .g) ++ fieldOf 2 (m .k) ++ fieldOf 0 (m .start .0) ++
+    targetBytes (m .target .0) (m .a .top) (m .b .top) ++ fieldOf 0 (m .a .first .0) ++ fieldOf 0 (m .b .first .0)
 
 -- The record of a model.
 unfoldable pub recordOf : Model → List ℕ

@@ -3,18 +3,20 @@ use model::Model;
 use model::Right;
 use model::Rule;
 use model::Thread;
+use model::Top;
 ghost use mathlib.Core.Bool.{cond};
 ghost use mathlib.Core.List.{[], _∷_, _++_};
 ghost use mathlib.Core.Path.{_≡_};
 ghost use Prim.Native.Nat.{_+_, _≤_};
 ghost use lib.Dec.{eqb};
 ghost use lib.ListN.{length, take, drop};
-ghost use Rattle.writer.specs.Put.{Put, Halves, Small};
+ghost use Rattle.writer.specs.Put.{Put, Halves, Small, SmallModel};
 ghost use Rattle.writer.specs.Writer.{fieldOf, symbolsOf, symbolBits, ruleBytes, rulesOf, mapOf, headBytes, recordOf};
+ghost use Rattle.writer.specs.Writer.{topOf, topWeight, targetBytes};
 
 // A whole record, from the front of the buffer.
 pub fn put_record(s: &mut [u8], m: Model) -> usize
-    requires { ⌜ Small (m .a) × Small (m .b) × (length (recordOf m) ≤ length (now s)) ⌝ }
+    requires { ⌜ SmallModel m × (length (recordOf m) ≤ length (now s)) ⌝ }
     ensures { λ r. ⌜ Put (now (s .entry)) (now (s .exit)) 0 r (recordOf m) ⌝ }
 {
     let mut at = put_head(s, m);
@@ -38,7 +40,7 @@ pub fn copy(from: &[u8], to: &mut [u8], size: usize)
 
 // The map and the head fields.
 fn put_head(s: &mut [u8], m: Model) -> usize
-    requires { ⌜ Small (m .a) × Small (m .b) × (length (headBytes m) ≤ length (now s)) ⌝ }
+    requires { ⌜ SmallModel m × (length (headBytes m) ≤ length (now s)) ⌝ }
     ensures { λ r. ⌜ Put (now (s .entry)) (now (s .exit)) 0 r (headBytes m) ⌝ }
 {
     let map = map_byte(m);
@@ -46,14 +48,51 @@ fn put_head(s: &mut [u8], m: Model) -> usize
     at = put_field(s, at, 4, m.g);
     at = put_field(s, at, 2, m.k);
     at = put_field(s, at, 0, m.start.0);
-    at = put_byte(s, at, m.target.0);
+    at = put_target(s, at, m);
     at = put_field(s, at, 0, m.a.first.0);
     put_field(s, at, 0, m.b.first.0)
 }
 
+// The target byte, and where a top is named the second map and its fields, which bit 7 announces.
+fn put_target(s: &mut [u8], at: usize, m: Model) -> usize
+    requires { ⌜ SmallModel m × (at + length (targetBytes (m .target .0) (m .a .top) (m .b .top)) ≤ length (now s)) ⌝ }
+    ensures { λ r. ⌜ Put (now (s .entry)) (now (s .exit)) at r (targetBytes (m .target .0) (m .a .top) (m .b .top)) ⌝ }
+{
+    let a = m.a;
+    let top_a = a.top;
+    let b = m.b;
+    let top_b = b.top;
+    let map = top_weight(1, top_a) + top_weight(2, top_b);
+    let mut next = put_byte(s, at, m.target.0 + weight(128, 0, map));
+    next = put_field(s, next, 0, map);
+    next = put_top(s, next, top_a);
+    put_top(s, next, top_b)
+}
+
+// What a top adds to the second map: the weight of its bit, where it is named.
+fn top_weight(w: u8, t: Top) -> u8
+    ensures { λ r. ⌜ (r ≡ topWeight w t) × (r ≤ w) ⌝ }
+{
+    match t {
+        Top::Any => 0,
+        Top::Named(_) => w,
+    }
+}
+
+// The symbol of a top that is named.
+fn put_top(s: &mut [u8], at: usize, t: Top) -> usize
+    requires { ⌜ at + length (topOf t) ≤ length (now s) ⌝ }
+    ensures { λ r. ⌜ Put (now (s .entry)) (now (s .exit)) at r (topOf t) ⌝ }
+{
+    match t {
+        Top::Any => at,
+        Top::Named(x) => put_byte(s, at, x.0),
+    }
+}
+
 // The map of a model: the weights of its fields that are present.
 fn map_byte(m: Model) -> u8
-    requires { ⌜ Small (m .a) × Small (m .b) ⌝ }
+    requires { ⌜ SmallModel m ⌝ }
     ensures { λ r. ⌜ r ≡ mapOf m ⌝ }
 {
     let g = weight(1, 4, m.g);

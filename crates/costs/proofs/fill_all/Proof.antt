@@ -2,6 +2,8 @@
 use mathlib.Core.Path.{_≡_}
 use Prim.Native.Nat.{suc, _-_, _*_, _^_, _≤_}
 use borrow.Author.Needs.{needs}
+use Rattle.model.specs.declared.Top.{Top}
+use Rattle.summary.specs.Cells.{staysOf}
 use Rattle.costs.specs.Lanes.{fullLines, costOf}
 use Rattle.costs.proofs.Filled.{full}
 use Rattle.costs.proofs.Front.{Front, front-start, front-next, front-all}
@@ -9,11 +11,12 @@ use Rattle.costs.proofs.fill_all.Statement.{statement}
 use Rattle.costs.proofs.fill_all.Tie as tie
 
 abbrev Inv-loop : tie.InvT-loop
-Inv-loop table costs₀ g n id start top count v₀ costs v =
-    (count ≡ g ^ (2 * suc n)) × (count ≤ fullLines) × (v ≤ count) × Front (λ v x. x ≡ costOf id table g n start top v) v costs₀ costs
+Inv-loop table costs₀ g n id start symbol stays count v₀ costs v =
+    (count ≡ g ^ (2 * suc n)) × (count ≤ fullLines) × (v ≤ count)
+    × Front (λ v x. (f : Top) → stays ≡ staysOf f → x ≡ costOf id table g n start symbol f v) v costs₀ costs
 
 abbrev μ-loop : tie.MeasureT-loop
-μ-loop table costs₀ g n id start top count v₀ costs v = count - v
+μ-loop table costs₀ g n id start symbol stays count v₀ costs v = count - v
 
 mul-power : tie.Need-mul-power Inv-loop μ-loop
 mul-power c = search needs
@@ -51,7 +54,7 @@ same-length : tie.Need-same-length Inv-loop μ-loop
 same-length c = search needs
 
 returns : tie.Need-returns Inv-loop μ-loop
-returns c = let loop = c .before .loop in front-all (loop .inv .3) (loop .inv .0) (c .loop-test .left)
+returns c f k v h = let loop = c .before .loop in front-all (loop .inv .3) (loop .inv .0) (c .loop-test .left) v h f k
 
 pub fill-all-spec : {M : Type 1} → statement M
 fill-all-spec =

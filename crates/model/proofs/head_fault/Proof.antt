@@ -1,56 +1,72 @@
--- `head_fault` meets its contract: each test of the code decides one check of the definition.
-use Rattle.model.specs.Results.{firstOf}
+-- `head_fault` meets its contract: the parts are checked in order, and the first fault of a part is the answer.
+use mathlib.Core.Path.{refl}
+use native.Mathlib.Omega.{arith}
+use borrow.Author.Needs.{needs}
 use Rattle.model.specs.Valid.{headFault}
+use Rattle.model.proofs.Checks.{stops, passes, closes}
 use Rattle.model.proofs.Tests.{decided}
 use Rattle.model.proofs.head_fault.Statement.{statement}
 use Rattle.model.proofs.head_fault.Tie as tie
 
+range-fault-requires : tie.Need-range-fault-requires
+range-fault-requires c κs = search needs
+
 returns : tie.Need-returns
-unfolding headFault firstOf
-returns c = search decided
+unfolding headFault
+returns c = stops _ (c .before .range-fault .ensures) (c .if1 .taken)
+
+top-fault-requires : tie.Need-top-fault-requires
+top-fault-requires c κs = search needs
 
 returns-2 : tie.Need-returns-2
-unfolding headFault firstOf
-returns-2 c = search decided
+unfolding headFault
+returns-2 c =
+    passes _ (c .before .before .before .before .range-fault .ensures) (c .before .before .before .if1 .left)
+    (stops _ (c .before .top-fault .ensures) (c .if2 .taken))
+
+top-fault-requires-2 : tie.Need-top-fault-requires-2
+top-fault-requires-2 c κs = search needs
 
 returns-3 : tie.Need-returns-3
-unfolding headFault firstOf
-returns-3 c = search decided
+unfolding headFault
+returns-3 c =
+    passes _ (c .before .before .before .before .before .before .before .range-fault .ensures) (c .before .before .before .before .before .before .if1 .left)
+    (passes _ (c .before .before .before .before .top-fault .ensures) (c .before .before .before .if2 .left)
+    (stops _ (c .before .top-fault2 .ensures) (c .if3 .taken)))
 
 returns-4 : tie.Need-returns-4
-unfolding headFault firstOf
-returns-4 c = search decided
+unfolding headFault
+returns-4 c =
+    passes _ (c .before .before .before .before .before .before .before .before .before .range-fault .ensures) (c .before .before .before .before .before .before .before .before .if1 .left)
+    (passes _ (c .before .before .before .before .before .before .top-fault .ensures) (c .before .before .before .before .before .if2 .left)
+    (passes _ (c .before .before .before .top-fault2 .ensures) (c .before .before .if3 .left) (stops _ (search decided) (λ e. omega arith))))
 
 returns-5 : tie.Need-returns-5
-unfolding headFault firstOf
-returns-5 c = search decided
+unfolding headFault
+returns-5 c =
+    passes _ (c .before .before .before .before .before .before .before .before .before .before .before .range-fault .ensures) (c .before .before .before .before .before .before .before .before .before .before .if1 .left)
+    (passes _ (c .before .before .before .before .before .before .before .before .top-fault .ensures) (c .before .before .before .before .before .before .before .if2 .left)
+    (passes _ (c .before .before .before .before .before .top-fault2 .ensures) (c .before .before .before .before .if3 .left) (passes {found = 0} _ (search decided) refl
+    (closes (search decided)))))
 
 returns-6 : tie.Need-returns-6
-unfolding headFault firstOf
-returns-6 c = search decided
-
-returns-7 : tie.Need-returns-7
-unfolding headFault firstOf
-returns-7 c = search decided
-
-returns-8 : tie.Need-returns-8
-unfolding headFault firstOf
-returns-8 c = search decided
-
-returns-9 : tie.Need-returns-9
-unfolding headFault firstOf
-returns-9 c = search decided
+unfolding headFault
+returns-6 c =
+    passes _ (c .before .before .before .before .before .before .before .before .before .before .before .range-fault .ensures) (c .before .before .before .before .before .before .before .before .before .before .if1 .left)
+    (passes _ (c .before .before .before .before .before .before .before .before .top-fault .ensures) (c .before .before .before .before .before .before .before .if2 .left)
+    (passes _ (c .before .before .before .before .before .top-fault2 .ensures) (c .before .before .before .before .if3 .left) (passes {found = 0} _ (search decided) refl
+    (closes (search decided)))))
 
 pub head-fault-spec : {M : Type 1} → statement M
 head-fault-spec =
     tie.close
     (tie.spec
+    range-fault-requires
     returns
+    top-fault-requires
     returns-2
+    top-fault-requires-2
     returns-3
     returns-4
     returns-5
-    returns-6
-    returns-7
-    returns-8
-    returns-9)
+    returns-6)

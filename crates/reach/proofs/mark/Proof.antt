@@ -3,14 +3,17 @@ use borrow.Author.Needs.{needs}
 use Rattle.reach.proofs.mark.Statement.{statement}
 use Rattle.reach.proofs.mark.Tie as tie
 
-slice-aggregate-both : tie.Need-slice-aggregate-both
-slice-aggregate-both c = search needs
+slice-aggregate-lines : tie.Need-slice-aggregate-lines
+slice-aggregate-lines c = search needs
 
-slice-aggregate-both-2 : tie.Need-slice-aggregate-both-2
-slice-aggregate-both-2 c = search needs
+slice-aggregate-lines-2 : tie.Need-slice-aggregate-lines-2
+slice-aggregate-lines-2 c = search needs
 
-both-requires : tie.Need-both-requires
-both-requires c κs = search needs
+slice-aggregate-lines-3 : tie.Need-slice-aggregate-lines-3
+slice-aggregate-lines-3 c = search needs
+
+lines-requires : tie.Need-lines-requires
+lines-requires c κs = search needs
 
 slice-aggregate-draw : tie.Need-slice-aggregate-draw
 slice-aggregate-draw c = search needs
@@ -20,9 +23,8 @@ slice-aggregate-draw-2 c = search needs
 
 draw-requires : tie.Need-draw-requires
 draw-requires c κs =
-    let both = c .before .before .before .before .before in
-    let pre = both .before .before .before .before .pre in
-    (pre .0, (pre .1, ((search needs, search needs), both .both .ensures)))
+    let pre = c .before .before .before .before .before .before .before .before .before .before .before .pre in
+    (pre .0, (pre .1, ((search needs, search needs), c .before .before .before .before .before .before .lines .ensures)))
 
 same-length : tie.Need-same-length
 same-length c = search needs
@@ -34,9 +36,10 @@ pub mark-spec : {M : Type 1} → statement M
 mark-spec =
     tie.close
     (tie.spec
-    slice-aggregate-both
-    slice-aggregate-both-2
-    both-requires
+    slice-aggregate-lines
+    slice-aggregate-lines-2
+    slice-aggregate-lines-3
+    lines-requires
     slice-aggregate-draw
     slice-aggregate-draw-2
     draw-requires

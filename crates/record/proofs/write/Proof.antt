@@ -4,7 +4,7 @@ use mathlib.Core.Path.{sym, _∙_}
 use native.Mathlib.Omega.{arith}
 use Rattle.model.specs.Valid.{Valid, Places}
 use Rattle.model.proofs.Checks.{length-mapped}
-use Rattle.record.proofs.Answers.{both-small, front, faulty, short, whole}
+use Rattle.record.proofs.Answers.{small-model, front, faulty, short, whole}
 use Rattle.writer.proofs.Lengths.{at-most}
 use Rattle.record.proofs.write.Statement.{statement}
 use Rattle.record.proofs.write.Tie as tie
@@ -31,11 +31,10 @@ slice-aggregate-put-record : tie.Need-slice-aggregate-put-record
 slice-aggregate-put-record c = search needs
 
 put-record-requires : tie.Need-put-record-requires
-put-record-requires c κs =
-    let small = both-small _ (valid (c .before)) in (small .0, small .1, at-most _ (valid (c .before)))
+put-record-requires c κs = (small-model _ (valid (c .before)), at-most _ (valid (c .before)))
 
 returns-2 : tie.Need-returns-2
-returns-2 c = short _ _ (valid (c .before .before .before .before)) (omega arith) (c .if2 .taken)
+returns-2 c = short _ _ (valid (c .before .before .before .before)) (omega arith) (omega arith)
 
 slice-aggregate-copy : tie.Need-slice-aggregate-copy
 slice-aggregate-copy c = search needs
@@ -51,7 +50,7 @@ returns-3 c =
     let put = c .before .before .before .before .before .before .before in
     let ok = valid (put .before .before) in
     rw (c .before .before .copy .ensures, front _ (put .put-record .ensures) (at-most _ ok))
-    (whole _ _ ok (places (put .before .before)) (omega arith) (c .before .before .before .before .before .if2 .left))
+    (whole _ _ ok (places (put .before .before)) (omega arith) (omega arith))
 
 pub write-spec : {M : Type 1} → statement M
 write-spec =

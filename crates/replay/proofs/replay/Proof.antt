@@ -40,15 +40,29 @@ steps-requires c κs =
 enum-known-w : tie.Need-enum-known-w
 enum-known-w c = search needs
 
+slice-aggregate-at-target : tie.Need-slice-aggregate-at-target
+slice-aggregate-at-target c = search needs
+
+slice-aggregate-at-target-2 : tie.Need-slice-aggregate-at-target-2
+slice-aggregate-at-target-2 c = search needs
+
+at-target-requires : tie.Need-at-target-requires
+at-target-requires c κs =
+    let walk = c .before .before .before .before .before .before .before in
+    let grown = rw (c .before .before .before .w .given .1) at (walk .steps .ensures .1) in
+    let start = walk .before .before .before .before .before .start .ensures in
+    (omega (arith, grown .0, start .first), omega (arith, grown .1, start .second))
+
 enum-known-n : tie.Need-enum-known-n
 enum-known-n c = search needs
 
 returns-4 : tie.Need-returns-4
 returns-4 c =
-    let walk = c .before .before .before .before .before .before .before in
+    let walk = c .before .before .before .before .before .before .before .before in
     let tests = walk .before .before .before .before .before .before .before .before in
-    walked _ _ (tests .before .before .before .fault .ensures) (tests .before .before .if1 .left) (tests .before .if2 .left) (tests .if3 .left)
-    (rw (c .before .before .before .w .given .1, walk .before .before .before .before .before .start .ensures .config) at (walk .steps .ensures .0))
+    rw (c .at-target .ensures)
+    (walked _ _ (tests .before .before .before .fault .ensures) (tests .before .before .if1 .left) (tests .before .if2 .left) (tests .if3 .left)
+    (rw (c .before .before .before .before .w .given .1, walk .before .before .before .before .before .start .ensures .config) at (walk .steps .ensures .0)))
 
 returns-5 : tie.Need-returns-5
 returns-5 c =
@@ -72,6 +86,9 @@ replay-spec =
     slice-aggregate-steps-2
     steps-requires
     enum-known-w
+    slice-aggregate-at-target
+    slice-aggregate-at-target-2
+    at-target-requires
     enum-known-n
     returns-4
     returns-5)

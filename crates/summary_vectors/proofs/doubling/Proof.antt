@@ -26,7 +26,7 @@ close-plain-requires : tie.Need-close-plain-requires
 close-plain-requires c κs =
     let read = c .before .before .before .before .before .read in
     let z = accepted-fits (read .result) _ (c .before .before .enum-told2 .given .1) (read .ensures .1) in
-    (search needs, z .0, z .1)
+    (search needs, z .0, tt, z .1)
 
 compared-requires : tie.Need-compared-requires
 compared-requires c κs = search needs

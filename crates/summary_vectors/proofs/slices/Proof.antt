@@ -3,12 +3,13 @@ use mathlib.Core.Path.{_≡_}
 use Prim.Native.Nat.{_-_}
 use lib.ListN.{length}
 use borrow.Author.Needs.{needs}
+use Rattle.model.specs.declared.Top.the-variants.{Any}
 use Rattle.summary.specs.Cells.{size, second, First, Solved}
 use Rattle.summary_vectors.proofs.slices.Statement.{statement}
 use Rattle.summary_vectors.proofs.slices.Tie as tie
 
 abbrev Inv-loop : tie.InvT-loop
-Inv-loop t₀ n th sum₀ e₀ t sum e = (length t ≡ size) × Solved (First th n) second t
+Inv-loop t₀ n th sum₀ e₀ t sum e = (length t ≡ size) × Solved (First th Any n) second t
 
 abbrev μ-loop : tie.MeasureT-loop
 μ-loop t₀ n th sum₀ e₀ t sum e = 16 - e

@@ -26,9 +26,9 @@ slice-aggregate-steps c = search needs
 
 steps-requires : tie.Need-steps-requires
 steps-requires c κs =
-    let p = c .before .before .before .before .before .pre in
+    let p = c .before .before .before .before .before .before .before .pre in
     let f = p .0 in (
-      (f .g .0, f .g .1, omega (arith, f .k), f .start, line-low _ (f .k .0) (p .1 .0), f .a),
+      (f .g .0, f .g .1, omega (arith, f .k), f .start, line-low _ (f .k .0) (p .1 .0), f .a .top, f .a),
       (cost-along _ A _ _ (f .k .0) (p .1 .0 .a), omega (arith, p .1 .0 .most), omega (arith, p .1 .0 .most)),
     )
 
@@ -37,9 +37,9 @@ slice-aggregate-steps-2 c = search needs
 
 steps-requires-2 : tie.Need-steps-requires-2
 steps-requires-2 c κs =
-    let p = c .before .before .before .before .before .before .before .before .pre in
+    let p = c .before .before .before .before .before .before .before .before .before .before .pre in
     let f = p .0 in (
-      (f .g .0, f .g .1, omega (arith, f .k), f .start, line-low _ (f .k .0) (p .1 .0), f .b),
+      (f .g .0, f .g .1, omega (arith, f .k), f .start, line-low _ (f .k .0) (p .1 .0), f .b .top, f .b),
       (cost-along _ B _ _ (f .k .0) (p .1 .0 .b), omega (arith, p .1 .0 .most), omega (arith, p .1 .0 .most)),
     )
 
@@ -54,22 +54,22 @@ array-share-prefix-a c = search needs
 
 slice-aggregate-merge : tie.Need-slice-aggregate-merge
 slice-aggregate-merge c =
-    let c11 = c .before .before .before .before .before .before .before .before .before .before .before in
-    sym (length-take-le (2 * c11 .args .x) _ (omega (arith, c11 .pre .1 .0 .most)))
+    let c13 = c .before .before .before .before .before .before .before .before .before .before .before .before .before in
+    sym (length-take-le (2 * c13 .args .x) _ (omega (arith, c13 .pre .1 .0 .most)))
 
 array-share-prefix-b : tie.Need-array-share-prefix-b
 array-share-prefix-b c = search needs
 
 slice-aggregate-merge-2 : tie.Need-slice-aggregate-merge-2
 slice-aggregate-merge-2 c =
-    let c12 = c .before .before .before .before .before .before .before .before .before .before .before .before in
-    sym (length-take-le (2 * c12 .args .y) _ (omega (arith, c12 .pre .1 .0 .most)))
+    let c14 = c .before .before .before .before .before .before .before .before .before .before .before .before .before .before in
+    sym (length-take-le (2 * c14 .args .y) _ (omega (arith, c14 .pre .1 .0 .most)))
 
 merge-requires : tie.Need-merge-requires
 merge-requires c κs =
-    let c13 = c .before .before .before .before .before .before .before .before .before .before .before .before .before in
-    let most = c13 .pre .1 .0 .most in
-    fronts-fit _ _ (c13 .args .x) (c13 .args .y) (omega (arith, most)) (omega (arith, most)) most (c13 .pre .1 .1)
+    let c15 = c .before .before .before .before .before .before .before .before .before .before .before .before .before .before .before in
+    let most = c15 .pre .1 .0 .most in
+    fronts-fit _ _ (c15 .args .x) (c15 .args .y) (omega (arith, most)) (omega (arith, most)) most (c15 .pre .1 .1)
 
 same-length : tie.Need-same-length
 same-length c = search needs
@@ -78,7 +78,7 @@ returns : tie.Need-returns
 returns c =
     let c7 = c .before .before .before .before .before .before .before in
     let c10 = c7 .before .before .before in
-    let p = c10 .before .before .before .before .before .before .pre in
+    let p = c10 .before .before .before .before .before .before .before .before .pre in
     written _ (p .0 .k .0) (p .1 .0) (c10 .steps .ensures) (c7 .steps2 .ensures) (omega (arith, p .1 .0 .most))
     (omega (arith, p .1 .0 .most)) (c .before .before .merge .ensures)
 

@@ -20,7 +20,7 @@ k-from c = g-from (c .before .before .before .before)
 abbrev start-from : tie.After-put-field-arg3 → tie.Start
 start-from c = k-from (c .before .before .before .before)
 
-abbrev target-from : tie.After-put-byte-arg2 → tie.Start
+abbrev target-from : tie.After-put-target-arg → tie.Start
 target-from c = start-from (c .before .before .before .before)
 
 abbrev first-a-from : tie.After-put-field-arg4 → tie.Start
@@ -34,31 +34,31 @@ map-byte-requires c κs = search needs
 
 put-byte-requires : tie.Need-put-byte-requires
 unfolding headBytes
-put-byte-requires c κs = omega (arith, simp length-append at (map-from c .pre .2))
+put-byte-requires c κs = omega (arith, simp length-append at (map-from c .pre .1))
 
 put-field-requires : tie.Need-put-field-requires
 unfolding headBytes
-put-field-requires c κs = omega (arith, simp length-append at (g-from c .pre .2))
+put-field-requires c κs = omega (arith, simp length-append at (g-from c .pre .1))
 
 put-field-requires-2 : tie.Need-put-field-requires-2
 unfolding headBytes
-put-field-requires-2 c κs = omega (arith, simp length-append at (k-from c .pre .2))
+put-field-requires-2 c κs = omega (arith, simp length-append at (k-from c .pre .1))
 
 put-field-requires-3 : tie.Need-put-field-requires-3
 unfolding headBytes
-put-field-requires-3 c κs = omega (arith, simp length-append at (start-from c .pre .2))
+put-field-requires-3 c κs = omega (arith, simp length-append at (start-from c .pre .1))
 
-put-byte-requires-2 : tie.Need-put-byte-requires-2
+put-target-requires : tie.Need-put-target-requires
 unfolding headBytes
-put-byte-requires-2 c κs = omega (arith, simp length-append at (target-from c .pre .2))
+put-target-requires c κs = (target-from c .pre .0, omega (arith, simp length-append at (target-from c .pre .1)))
 
 put-field-requires-4 : tie.Need-put-field-requires-4
 unfolding headBytes
-put-field-requires-4 c κs = omega (arith, simp length-append at (first-a-from c .pre .2))
+put-field-requires-4 c κs = omega (arith, simp length-append at (first-a-from c .pre .1))
 
 put-field-requires-5 : tie.Need-put-field-requires-5
 unfolding headBytes
-put-field-requires-5 c κs = omega (arith, simp length-append at (first-b-from c .pre .2))
+put-field-requires-5 c κs = omega (arith, simp length-append at (first-b-from c .pre .1))
 
 same-length : tie.Need-same-length
 same-length c = search needs
@@ -75,7 +75,7 @@ returns c =
     let map = g .before .before .before .before in
     rw (← map .before .before .map-byte .ensures)
     (map .put-byte .ensures then g .put-field .ensures then k .put-field2 .ensures then start .put-field3 .ensures
-    then (target .put-byte2 .ensures then first-a .put-field4 .ensures) then first-b .put-field5 .ensures)
+    then target .put-target .ensures then first-a .put-field4 .ensures then first-b .put-field5 .ensures)
 
 pub put-head-spec : {M : Type 1} → statement M
 put-head-spec =
@@ -86,7 +86,7 @@ put-head-spec =
     put-field-requires
     put-field-requires-2
     put-field-requires-3
-    put-byte-requires-2
+    put-target-requires
     put-field-requires-4
     put-field-requires-5
     same-length

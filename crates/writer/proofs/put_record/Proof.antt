@@ -11,19 +11,19 @@ put-head-requires : tie.Need-put-head-requires
 unfolding recordOf
 put-head-requires c κs =
     let entry = c .before .before in
-    (entry .pre .0, entry .pre .1, omega (arith, simp length-append at (entry .pre .2)))
+    (entry .pre .0, omega (arith, simp length-append at (entry .pre .1)))
 
 put-rules-requires : tie.Need-put-rules-requires
 unfolding recordOf
 put-rules-requires c κs =
     let entry = c .before .before .before .before .before .before .before in
-    (entry .pre .0, omega (arith, simp length-append at (entry .pre .2)))
+    (entry .pre .0 .a, omega (arith, simp length-append at (entry .pre .1)))
 
 put-rules-requires-2 : tie.Need-put-rules-requires-2
 unfolding recordOf
 put-rules-requires-2 c κs =
     let entry = c .before .before .before .before .before .before .before .before .before .before .before .before in
-    (entry .pre .1, omega (arith, simp length-append at (entry .pre .2)))
+    (entry .pre .0 .b, omega (arith, simp length-append at (entry .pre .1)))
 
 same-length : tie.Need-same-length
 same-length c = search needs

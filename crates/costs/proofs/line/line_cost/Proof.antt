@@ -14,7 +14,7 @@ add-len c = search needs
 first-state-requires : tie.Need-first-state-requires
 first-state-requires c κs =
     let start = c .before in
-    (start .pre .1, start .pre .2, omega (arith, start .pre .3), full-value (start .args .g) _ (start .pre .6), start .pre .4)
+    (start .pre .1, start .pre .2, omega (arith, start .pre .3), full-value (start .args .g) _ (start .pre .7), start .pre .4)
 
 turn-of-requires : tie.Need-turn-of-requires
 turn-of-requires c κs = search needs
@@ -22,27 +22,30 @@ turn-of-requires c κs = search needs
 state-at-requires : tie.Need-state-at-requires
 state-at-requires c κs =
     let start = c .before .before .before in
-    (start .pre .1, start .pre .2, omega (arith, start .pre .3), full-value (start .args .g) _ (start .pre .6))
+    (start .pre .1, start .pre .2, omega (arith, start .pre .3), full-value (start .args .g) _ (start .pre .7))
 
 lane-of-requires : tie.Need-lane-of-requires
 lane-of-requires c κs =
     let start = c .before .before .before .before in
-    (start .pre .1, start .pre .2, omega (arith, start .pre .3), full-value (start .args .g) _ (start .pre .6), omega arith)
+    (start .pre .1, start .pre .2, omega (arith, start .pre .3), full-value (start .args .g) _ (start .pre .7), omega arith)
 
 lane-of-requires-2 : tie.Need-lane-of-requires-2
 lane-of-requires-2 c κs =
     let start = c .before .before .before .before .before in
-    (start .pre .1, start .pre .2, omega (arith, start .pre .3), full-value (start .args .g) _ (start .pre .6), omega arith)
+    (start .pre .1, start .pre .2, omega (arith, start .pre .3), full-value (start .args .g) _ (start .pre .7), omega arith)
+
+add-pair-cost : tie.Need-add-pair-cost
+add-pair-cost c = search needs
 
 pair-cost-requires : tie.Need-pair-cost-requires
 pair-cost-requires c κs = search needs
 
 returns : tie.Need-returns
-returns c =
+returns c f k =
     let ends = c .before .before in
     let turn = ends .before .before in
     let args = turn .before .before .before .args in
-    line-costed (args .id) _ _ _ (args .start) _ _ (turn .before .first-state .ensures .0) (turn .turn-of .ensures .0) (ends .before .state-at .ensures .0)
+    line-costed (args .id) _ _ _ (args .start) _ f _ k (turn .before .first-state .ensures .0) (turn .turn-of .ensures .0) (ends .before .state-at .ensures .0)
     (ends .lane-of .ensures .0) (c .before .lane-of2 .ensures .0) (c .pair-cost .ensures)
 
 pub line-cost-spec : {M : Type 1} → statement M
@@ -56,5 +59,6 @@ line-cost-spec =
     state-at-requires
     lane-of-requires
     lane-of-requires-2
+    add-pair-cost
     pair-cost-requires
     returns)

@@ -1,8 +1,10 @@
 -- `over_states` meets its contract. The invariant: best is the least over the states below s.
 use mathlib.Core.Path.{_≡_, refl}
-use Prim.Native.Nat.{ℕ, _-_, _≤_}
+use Prim.Native.Nat.{ℕ, _+_, _-_, _≤_}
 use native.Mathlib.Nat.{le-antisymm}
 use borrow.Author.Needs.{needs}
+use Rattle.model.specs.declared.Top.{Top}
+use Rattle.summary.specs.Cells.{staysOf}
 use Rattle.costs.proofs.Entries.{one-more}
 use Rattle.costs.specs.Cost.{control, overStates}
 use Rattle.costs.specs.Lanes.{LaneTo}
@@ -13,24 +15,21 @@ use Rattle.costs.proofs.line.over_states.Tie as tie
 abbrev Inv-loop : tie.InvT-loop
 Inv-loop table g n j from top to before last old best₀ q₀ best q =
     (q ≤ g)
-    × ((ends : ℕ → TurnEnd) → LaneTo ends j before → LaneTo ends n last
-    → best ≡ overStates ends table (control 0 from) top (control n to) j q old)
+    × ((ends : ℕ → TurnEnd) (f : Top) (s : ℕ) → LaneTo ends j before → LaneTo ends n last → to ≡ staysOf f + s
+    → best ≡ overStates ends table (control 0 from) top f (control n s) j q old)
 
 abbrev μ-loop : tie.MeasureT-loop
 μ-loop table g n j from top to before last old best₀ q₀ best q = g - q
 
 loop-holds : tie.Need-loop-holds Inv-loop μ-loop
 unfolding overStates
-loop-holds c = (search needs, λ ends p q. refl)
+loop-holds c = (search needs, λ ends f s p q k. refl)
 
 entry-at-requires : tie.Need-entry-at-requires Inv-loop μ-loop
 entry-at-requires c κs = search needs
 
 sub-entry-at : tie.Need-sub-entry-at Inv-loop μ-loop
 sub-entry-at c = search needs
-
-add-entry-at : tie.Need-add-entry-at Inv-loop μ-loop
-add-entry-at c = search needs
 
 entry-at-requires-2 : tie.Need-entry-at-requires-2 Inv-loop μ-loop
 entry-at-requires-2 c κs = search needs
@@ -48,9 +47,9 @@ loop-again : tie.Need-loop-again Inv-loop μ-loop
 loop-again c =
     let pre = c .before .before .before .before .before .before .pre in (
       search needs,
-      λ ends p q.
-          one-more ends _ _ _ _ _ _ (pre .2) q _ _ _ _ _ _ _ _ (pre .3) p (c .before .before .entry-at .ensures) (c .before .entry-at2 .ensures)
-          (c .joined .ensures) (c .before .before .before .before .loop .inv .1 ends p q),
+      λ ends f s p q k.
+          one-more ends _ _ _ _ f s _ _ k (pre .2) q _ _ _ _ _ _ _ _ (pre .3) p (c .before .before .entry-at .ensures) (c .before .entry-at2 .ensures)
+          (c .joined .ensures) (c .before .before .before .before .loop .inv .1 ends f s p q k),
     )
 
 returns : tie.Need-returns Inv-loop μ-loop
@@ -65,7 +64,6 @@ over-states-spec =
     loop-holds
     entry-at-requires
     sub-entry-at
-    add-entry-at
     entry-at-requires-2
     joined-requires
     add-q

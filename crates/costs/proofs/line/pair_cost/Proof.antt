@@ -3,6 +3,8 @@ use mathlib.Core.Path.{_≡_}
 use Prim.Native.Nat.{ℕ, suc, _+_, _-_, _≤_}
 use native.Mathlib.Omega.{arith}
 use borrow.Author.Needs.{needs}
+use Rattle.model.specs.declared.Top.{Top}
+use Rattle.summary.specs.Cells.{staysOf}
 use Rattle.costs.proofs.Entries.{none-gone, turn-more}
 use Rattle.costs.specs.Cost.{control, overTurns}
 use Rattle.costs.specs.Lanes.{endLane}
@@ -13,8 +15,8 @@ use Rattle.costs.proofs.line.pair_cost.Tie as tie
 abbrev Inv-loop : tie.InvT-loop
 Inv-loop table g n from top to a b last best₀ j₀ best j =
     (j ≤ n + 1)
-    × ((ends : ℕ → TurnEnd) → a ≡ endLane ends 0 → b ≡ endLane ends 1
-    → best ≡ overTurns ends table (control 0 from) top (control n to) g j)
+    × ((ends : ℕ → TurnEnd) (f : Top) (s : ℕ) → a ≡ endLane ends 0 → b ≡ endLane ends 1 → to ≡ staysOf f + s
+    → best ≡ overTurns ends table (control 0 from) top f (control n s) g j)
 
 abbrev μ-loop : tie.MeasureT-loop
 μ-loop table g n from top to a b last best₀ j₀ best j = n + 1 - j
@@ -22,16 +24,13 @@ abbrev μ-loop : tie.MeasureT-loop
 lane-to-requires : tie.Need-lane-to-requires Inv-loop μ-loop
 lane-to-requires c κs = search needs
 
-add-entry-at : tie.Need-add-entry-at Inv-loop μ-loop
-add-entry-at c = search needs
-
 entry-at-requires : tie.Need-entry-at-requires Inv-loop μ-loop
 entry-at-requires c κs = search needs
 
 loop-holds : tie.Need-loop-holds Inv-loop μ-loop
 loop-holds c = (
   search needs,
-  λ ends p q. none-gone ends _ _ _ _ _ _ (c .before .before .before .pre .2) (c .before .lane-to .ensures .0 ends p q) _ _ (c .entry-at .ensures),
+  λ ends f s p q k. none-gone ends _ _ _ _ f s _ _ k (c .before .before .before .pre .2) (c .before .lane-to .ensures .0 ends p q) _ _ (c .entry-at .ensures),
 )
 
 lane-to-requires-2 : tie.Need-lane-to-requires-2 Inv-loop μ-loop
@@ -49,9 +48,10 @@ loop-less c = search needs
 loop-again : tie.Need-loop-again Inv-loop μ-loop
 loop-again c = (
   search needs,
-  λ ends p q.
-      turn-more ends _ _ _ _ _ _ _ _ (c .over-states .ensures ends (c .before .lane-to2 .ensures .0 ends p q) (c .before .before .before .before .before .lane-to .ensures .0 ends p q))
-      (c .before .before .before .loop .inv .1 ends p q),
+  λ ends f s p q k.
+      turn-more ends _ _ _ f _ _ _ _ _
+      (c .over-states .ensures ends f s (c .before .lane-to2 .ensures .0 ends p q) (c .before .before .before .before .before .lane-to .ensures .0 ends p q) k)
+      (c .before .before .before .loop .inv .1 ends f s p q k),
 )
 
 returns : tie.Need-returns Inv-loop μ-loop
@@ -66,7 +66,6 @@ pair-cost-spec =
     Inv-loop
     μ-loop
     lane-to-requires
-    add-entry-at
     entry-at-requires
     loop-holds
     lane-to-requires-2

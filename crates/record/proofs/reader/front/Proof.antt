@@ -140,9 +140,9 @@ thread-requires c κs = search needs
 thread-requires-2 : tie.Need-thread-requires-2
 thread-requires-2 c κs = search needs
 
-add-t21 : tie.Need-add-t21
-add-t21 c =
-    let lb = c .before .before in
+add-t24 : tie.Need-add-t24
+add-t24 c =
+    let lb = c .before .before .before in
     let la = lb .before .before .before .before .before .before in
     let h = la .before .before .before .before .before .before in
     let start = h .before .before .before .before .before in
@@ -151,7 +151,7 @@ add-t21 c =
 returns-4 : tie.Need-returns-4
 unfolding parseFront
 returns-4 c =
-    let lb = c .before .before in
+    let lb = c .before .before .before in
     let b = lb .before .before .before .read-rules2 in
     let la = lb .before .before .before .before .before .before in
     let h = la .before .before .before .before .before .before in
@@ -196,5 +196,5 @@ front-spec =
     returns-3
     thread-requires
     thread-requires-2
-    add-t21
+    add-t24
     returns-4)

@@ -1,5 +1,6 @@
 -- `cross_pushes` meets its contract. The invariant: the states below q are relaxed.
-use Prim.Native.Nat.{_+_, _-_}
+use Prim.Native.Nat.{_+_, _*_, _-_}
+use native.Mathlib.Omega.{arith}
 use borrow.Author.Needs.{needs}
 use Rattle.summary.specs.Cells.{lane, first, second}
 use Rattle.summary.specs.Edges.{Row}
@@ -8,11 +9,11 @@ use Rattle.summary.proofs.cross.cross_pushes.Statement.{statement}
 use Rattle.summary.proofs.cross.cross_pushes.Tie as tie
 
 abbrev Inv-loop : tie.InvT-loop
-Inv-loop table₀ l g p top h a b changes₀ q₀ table changes q =
-    Turning 128 (λ q. Row 1 (lane second p top 0) (lane first h a q + l) (lane first q b 0) 128) g table₀ table changes q
+Inv-loop table₀ l dests g p top h a b changes₀ q₀ table changes q =
+    Turning 192 (λ q. Row 1 (lane second p top 0) (lane first h a q + l) (lane first q b 0) (dests * 16)) g table₀ table changes q
 
 abbrev μ-loop : tie.MeasureT-loop
-μ-loop table₀ l g p top h a b changes₀ q₀ table changes q = g - q
+μ-loop table₀ l dests g p top h a b changes₀ q₀ table changes q = g - q
 
 loop-holds : tie.Need-loop-holds Inv-loop μ-loop
 loop-holds c = starts _ _ _ _
@@ -23,14 +24,17 @@ lane-cell-requires c κs = search needs
 lane-cell-requires-2 : tie.Need-lane-cell-requires-2 Inv-loop μ-loop
 lane-cell-requires-2 c κs = search needs
 
-add-row : tie.Need-add-row Inv-loop μ-loop
-add-row c = search needs
+add-usual-row : tie.Need-add-usual-row Inv-loop μ-loop
+add-usual-row c = search needs
 
 lane-cell-requires-3 : tie.Need-lane-cell-requires-3 Inv-loop μ-loop
 lane-cell-requires-3 c κs = search needs
 
-row-requires : tie.Need-row-requires Inv-loop μ-loop
-row-requires c κs = search needs
+mul-usual-row : tie.Need-mul-usual-row Inv-loop μ-loop
+mul-usual-row c = search needs
+
+usual-row-requires : tie.Need-usual-row-requires Inv-loop μ-loop
+usual-row-requires c κs = search needs
 
 add-changes : tie.Need-add-changes Inv-loop μ-loop
 add-changes c = search needs
@@ -48,9 +52,9 @@ loop-again c =
     let lane-cell = c .before .before .before .before .before .lane-cell in
     let lane-cell2 = c .before .before .before .before .lane-cell2 in
     let lane-cell3 = c .before .before .before .lane-cell3 in
-    let row = c .before .before .row in
+    let row = c .before .before .usual-row in
     turns (loop .inv) (loop-test .taken)
-    (rw (lane-cell .ensures, lane-cell2 .ensures, lane-cell3 .ensures) at (row .ensures .0)) (row .ensures .1)
+    (rw (lane-cell .ensures, lane-cell2 .ensures, lane-cell3 .ensures) at (row .ensures .0)) (omega arith)
 
 same-length : tie.Need-same-length Inv-loop μ-loop
 same-length c = search needs
@@ -67,9 +71,10 @@ cross-pushes-spec =
     loop-holds
     lane-cell-requires
     lane-cell-requires-2
-    add-row
+    add-usual-row
     lane-cell-requires-3
-    row-requires
+    mul-usual-row
+    usual-row-requires
     add-changes
     add-q
     loop-less

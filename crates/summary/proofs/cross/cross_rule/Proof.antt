@@ -33,7 +33,7 @@ cross-pushes-requires : tie.Need-cross-pushes-requires
 cross-pushes-requires c κs =
     let pre = c .before .before .before .before .before .before .before .before .before .before .pre in
     let right = c .before .before .before .before .right in
-    omega (arith, rw (right .given .1) at (pre .3 .symbols))
+    omega (arith, rw (right .given .1) at (pre .4 .symbols))
 
 returns : tie.Need-returns
 returns c = (rw (c .enum-told .given .1) (unchanged _), omega arith)

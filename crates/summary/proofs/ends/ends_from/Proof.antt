@@ -9,11 +9,11 @@ use Rattle.summary.proofs.ends.ends_from.Statement.{statement}
 use Rattle.summary.proofs.ends.ends_from.Tie as tie
 
 abbrev Inv-loop : tie.InvT-loop
-Inv-loop table₀ g o changes₀ i₀ table changes i =
-    Turning 136 (λ i. Below 17 (λ γ. Below 8 (λ d. Row 0 (lane first o γ d + laneOf o i) rest (plain i γ d) 1))) g table₀ table changes i
+Inv-loop table₀ dests g o changes₀ i₀ table changes i =
+    Turning 204 (λ i. Below 17 (λ γ. Below dests (λ d. Row 0 (lane first o γ d + laneOf o i) rest (plain i γ d) 1))) g table₀ table changes i
 
 abbrev μ-loop : tie.MeasureT-loop
-μ-loop table₀ g o changes₀ i₀ table changes i = g - i
+μ-loop table₀ dests g o changes₀ i₀ table changes i = g - i
 
 loop-holds : tie.Need-loop-holds Inv-loop μ-loop
 loop-holds c = starts _ _ _ _

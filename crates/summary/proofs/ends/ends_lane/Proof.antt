@@ -1,5 +1,6 @@
 -- `ends_lane` meets its contract. The invariant: the symbols below s are relaxed.
 use Prim.Native.Nat.{_+_, _-_}
+use native.Mathlib.Omega.{arith}
 use borrow.Author.Needs.{needs}
 use Rattle.summary.specs.Cells.{plain, lane, laneOf, first, rest}
 use Rattle.summary.specs.Edges.{Row, Below}
@@ -8,11 +9,11 @@ use Rattle.summary.proofs.ends.ends_lane.Statement.{statement}
 use Rattle.summary.proofs.ends.ends_lane.Tie as tie
 
 abbrev Inv-loop : tie.InvT-loop
-Inv-loop table₀ o i changes₀ top₀ table changes top =
-    Turning 8 (λ γ. Below 8 (λ d. Row 0 (lane first o γ d + laneOf o i) rest (plain i γ d) 1)) 17 table₀ table changes top
+Inv-loop table₀ dests o i changes₀ top₀ table changes top =
+    Turning 12 (λ γ. Below dests (λ d. Row 0 (lane first o γ d + laneOf o i) rest (plain i γ d) 1)) 17 table₀ table changes top
 
 abbrev μ-loop : tie.MeasureT-loop
-μ-loop table₀ o i changes₀ top₀ table changes top = 17 - top
+μ-loop table₀ dests o i changes₀ top₀ table changes top = 17 - top
 
 loop-holds : tie.Need-loop-holds Inv-loop μ-loop
 loop-holds c = starts _ _ _ _
@@ -34,7 +35,7 @@ loop-again c =
     let loop = c .before .before .before .before .before .loop in
     let loop-test = c .before .before .before .before .loop-test in
     let ends-symbol = c .before .before .ends-symbol in
-    turns (loop .inv) (loop-test .taken) (ends-symbol .ensures .0) (ends-symbol .ensures .1)
+    turns (loop .inv) (loop-test .taken) (ends-symbol .ensures .0) (omega arith)
 
 same-length : tie.Need-same-length Inv-loop μ-loop
 same-length c = search needs

@@ -1,5 +1,6 @@
 -- `ends_symbol` meets its contract. The invariant: the destinations below d are relaxed.
 use Prim.Native.Nat.{_+_, _-_}
+use native.Mathlib.Omega.{arith}
 use borrow.Author.Needs.{needs}
 use Rattle.summary.specs.Cells.{plain, lane, laneOf, first, rest}
 use Rattle.summary.specs.Edges.{Row}
@@ -8,11 +9,11 @@ use Rattle.summary.proofs.ends.ends_symbol.Statement.{statement}
 use Rattle.summary.proofs.ends.ends_symbol.Tie as tie
 
 abbrev Inv-loop : tie.InvT-loop
-Inv-loop table₀ o i top changes₀ d₀ table changes d =
-    Turning 1 (λ d. Row 0 (lane first o top d + laneOf o i) rest (plain i top d) 1) 8 table₀ table changes d
+Inv-loop table₀ dests o i top changes₀ d₀ table changes d =
+    Turning 1 (λ d. Row 0 (lane first o top d + laneOf o i) rest (plain i top d) 1) dests table₀ table changes d
 
 abbrev μ-loop : tie.MeasureT-loop
-μ-loop table₀ o i top changes₀ d₀ table changes d = 8 - d
+μ-loop table₀ dests o i top changes₀ d₀ table changes d = dests - d
 
 loop-holds : tie.Need-loop-holds Inv-loop μ-loop
 loop-holds c = starts _ _ _ _
@@ -57,7 +58,7 @@ same-length : tie.Need-same-length Inv-loop μ-loop
 same-length c = search needs
 
 returns : tie.Need-returns Inv-loop μ-loop
-returns c = ends (c .before .loop .inv) (c .loop-test .left)
+returns c = let done = ends (c .before .loop .inv) (c .loop-test .left) in (done .0, omega (arith, done .1))
 
 pub ends-symbol-spec : {M : Type 1} → statement M
 ends-symbol-spec =

@@ -8,11 +8,11 @@ use Rattle.summary.proofs.ends.first_ends.Statement.{statement}
 use Rattle.summary.proofs.ends.first_ends.Tie as tie
 
 abbrev Inv-loop : tie.InvT-loop
-Inv-loop table₀ g changes₀ o₀ table changes o =
-    Turning 544 (λ o. Below g (λ i. Below 17 (λ γ. Below 8 (λ d. Row 0 (lane first o γ d + laneOf o i) rest (plain i γ d) 1)))) g table₀ table changes o
+Inv-loop table₀ dests g changes₀ o₀ table changes o =
+    Turning 816 (λ o. Below g (λ i. Below 17 (λ γ. Below dests (λ d. Row 0 (lane first o γ d + laneOf o i) rest (plain i γ d) 1)))) g table₀ table changes o
 
 abbrev μ-loop : tie.MeasureT-loop
-μ-loop table₀ g changes₀ o₀ table changes o = g - o
+μ-loop table₀ dests g changes₀ o₀ table changes o = g - o
 
 loop-holds : tie.Need-loop-holds Inv-loop μ-loop
 loop-holds c = starts _ _ _ _

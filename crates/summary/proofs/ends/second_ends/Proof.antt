@@ -1,5 +1,6 @@
 -- `second_ends` meets its contract. The invariant: the symbols below s are relaxed.
-use Prim.Native.Nat.{_-_}
+use Prim.Native.Nat.{_*_, _-_}
+use native.Mathlib.Omega.{arith}
 use borrow.Author.Needs.{needs}
 use Rattle.summary.specs.Cells.{lane, first, second, rest}
 use Rattle.summary.specs.Edges.{Row}
@@ -8,11 +9,11 @@ use Rattle.summary.proofs.ends.second_ends.Statement.{statement}
 use Rattle.summary.proofs.ends.second_ends.Tie as tie
 
 abbrev Inv-loop : tie.InvT-loop
-Inv-loop table₀ o i changes₀ top₀ table changes top =
-    Turning 128 (λ γ. Row 0 (lane second o γ 0) rest (lane first i γ 0) 128) 17 table₀ table changes top
+Inv-loop table₀ dests o i changes₀ top₀ table changes top =
+    Turning 192 (λ γ. Row 0 (lane second o γ 0) rest (lane first i γ 0) (dests * 16)) 17 table₀ table changes top
 
 abbrev μ-loop : tie.MeasureT-loop
-μ-loop table₀ o i changes₀ top₀ table changes top = 17 - top
+μ-loop table₀ dests o i changes₀ top₀ table changes top = 17 - top
 
 loop-holds : tie.Need-loop-holds Inv-loop μ-loop
 loop-holds c = starts _ _ _ _
@@ -23,8 +24,11 @@ lane-cell-requires c κs = search needs
 lane-cell-requires-2 : tie.Need-lane-cell-requires-2 Inv-loop μ-loop
 lane-cell-requires-2 c κs = search needs
 
-row-requires : tie.Need-row-requires Inv-loop μ-loop
-row-requires c κs = search needs
+mul-usual-row : tie.Need-mul-usual-row Inv-loop μ-loop
+mul-usual-row c = search needs
+
+usual-row-requires : tie.Need-usual-row-requires Inv-loop μ-loop
+usual-row-requires c κs = search needs
 
 add-changes : tie.Need-add-changes Inv-loop μ-loop
 add-changes c = search needs
@@ -41,9 +45,9 @@ loop-again c =
     let loop-test = c .before .before .before .before .before .before .loop-test in
     let lane-cell = c .before .before .before .before .lane-cell in
     let lane-cell2 = c .before .before .before .lane-cell2 in
-    let row = c .before .before .row in
+    let row = c .before .before .usual-row in
     turns (loop .inv) (loop-test .taken) (rw (lane-cell .ensures, lane-cell2 .ensures) at (row .ensures .0))
-    (row .ensures .1)
+    (omega arith)
 
 same-length : tie.Need-same-length Inv-loop μ-loop
 same-length c = search needs
@@ -60,7 +64,8 @@ second-ends-spec =
     loop-holds
     lane-cell-requires
     lane-cell-requires-2
-    row-requires
+    mul-usual-row
+    usual-row-requires
     add-changes
     add-top
     loop-less

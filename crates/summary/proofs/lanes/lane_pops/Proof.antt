@@ -8,11 +8,11 @@ use Rattle.summary.proofs.lanes.lane_pops.Statement.{statement}
 use Rattle.summary.proofs.lanes.lane_pops.Tie as tie
 
 abbrev Inv-loop : tie.InvT-loop
-Inv-loop table₀ base p top q b from changes₀ d₀ table changes d =
-    Turning 16 (λ d. Row 1 (lane base p top d) (plain q b d) from 16) 8 table₀ table changes d
+Inv-loop table₀ base dests p top q b from changes₀ d₀ table changes d =
+    Turning 16 (λ d. Row 1 (lane base p top d) (plain q b d) from 16) dests table₀ table changes d
 
 abbrev μ-loop : tie.MeasureT-loop
-μ-loop table₀ base p top q b from changes₀ d₀ table changes d = 8 - d
+μ-loop table₀ base dests p top q b from changes₀ d₀ table changes d = dests - d
 
 loop-holds : tie.Need-loop-holds Inv-loop μ-loop
 loop-holds c = starts _ _ _ _

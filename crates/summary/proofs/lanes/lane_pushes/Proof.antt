@@ -1,6 +1,6 @@
--- `lane_pushes` meets its contract. The invariant: the states below q are relaxed, each by one row and then by eight.
+-- `lane_pushes` meets its contract. The invariant: the states below q are relaxed, each by one row and then by one a destination.
 use mathlib.Core.Logic.{_⊎_}
-use Prim.Native.Nat.{_-_}
+use Prim.Native.Nat.{_*_, _-_}
 use native.Mathlib.Omega.{arith}
 use borrow.Author.Needs.{needs}
 use Rattle.summary.specs.Cells.{plain, lane}
@@ -11,13 +11,13 @@ use Rattle.summary.proofs.lanes.lane_pushes.Statement.{statement}
 use Rattle.summary.proofs.lanes.lane_pushes.Tie as tie
 
 abbrev Inv-loop : tie.InvT-loop
-Inv-loop table₀ base g p top h a b changes₀ q₀ table changes q =
-    Turning 256
-    (λ q e. Row 1 (lane base p top 0) (plain h a q) (lane base q b 0) 128 e ⊎ Below 8 (λ d. Row 1 (lane base p top d) (plain q b d) (lane base h a q) 16) e)
+Inv-loop table₀ base dests g p top h a b changes₀ q₀ table changes q =
+    Turning 384
+    (λ q e. Row 1 (lane base p top 0) (plain h a q) (lane base q b 0) (dests * 16) e ⊎ Below dests (λ d. Row 1 (lane base p top d) (plain q b d) (lane base h a q) 16) e)
     g table₀ table changes q
 
 abbrev μ-loop : tie.MeasureT-loop
-μ-loop table₀ base g p top h a b changes₀ q₀ table changes q = g - q
+μ-loop table₀ base dests g p top h a b changes₀ q₀ table changes q = g - q
 
 loop-holds : tie.Need-loop-holds Inv-loop μ-loop
 loop-holds c = starts _ _ _ _
@@ -31,8 +31,11 @@ plain-cell-requires c κs = search needs
 lane-cell-requires-2 : tie.Need-lane-cell-requires-2 Inv-loop μ-loop
 lane-cell-requires-2 c κs = search needs
 
-row-requires : tie.Need-row-requires Inv-loop μ-loop
-row-requires c κs = search needs
+mul-usual-row : tie.Need-mul-usual-row Inv-loop μ-loop
+mul-usual-row c = search needs
+
+usual-row-requires : tie.Need-usual-row-requires Inv-loop μ-loop
+usual-row-requires c κs = search needs
 
 lane-cell-requires-3 : tie.Need-lane-cell-requires-3 Inv-loop μ-loop
 lane-cell-requires-3 c κs = search needs
@@ -59,13 +62,14 @@ loop-again c =
     let lane-cell = c .before .before .before .before .before .before .before .before .before .before .lane-cell in
     let plain-cell = c .before .before .before .before .before .before .before .before .before .plain-cell in
     let lane-cell2 = c .before .before .before .before .before .before .before .before .lane-cell2 in
-    let row = c .before .before .before .before .before .before .before .row in
+    let row = c .before .before .before .before .before .before .before .usual-row in
     let lane-cell3 = c .before .before .before .lane-cell3 in
     let lane-pops = c .before .before .lane-pops in
+    let pre = c .before .before .before .before .before .before .before .before .before .before .before .before .before .before .before .pre in
     turns (loop .inv) (loop-test .taken)
     (then (rw (lane-cell .ensures, plain-cell .ensures, lane-cell2 .ensures) at (row .ensures .0))
     (rw (lane-cell3 .ensures) at (lane-pops .ensures .0)))
-    (omega arith)
+    (omega (arith, pre .2))
 
 same-length : tie.Need-same-length Inv-loop μ-loop
 same-length c = search needs
@@ -83,7 +87,8 @@ lane-pushes-spec =
     lane-cell-requires
     plain-cell-requires
     lane-cell-requires-2
-    row-requires
+    mul-usual-row
+    usual-row-requires
     lane-cell-requires-3
     lane-pops-requires
     add-changes

@@ -30,13 +30,16 @@ lane-cell-requires-2 : tie.Need-lane-cell-requires-2
 lane-cell-requires-2 c κs =
     let pre = c .before .before .before .before .before .before .before .before .before .before .pre in
     let right = c .before .before .before .before .right in
-    omega (arith, rw (right .given .1) at (pre .3 .symbols))
+    omega (arith, rw (right .given .1) at (pre .5 .symbols))
 
-row-requires : tie.Need-row-requires
-row-requires c κs =
+mul-usual-row : tie.Need-mul-usual-row
+mul-usual-row c = search needs
+
+usual-row-requires : tie.Need-usual-row-requires
+usual-row-requires c κs =
     let pre = c .before .before .before .before .before .before .before .before .before .before .before .pre in
     let right = c .before .before .before .before .before .right in
-    omega (arith, rw (right .given .1) at (pre .3 .symbols))
+    omega (arith, rw (right .given .1) at (pre .5 .symbols))
 
 enum-known-right-2 : tie.Need-enum-known-right-2
 enum-known-right-2 c = search needs
@@ -51,7 +54,7 @@ lane-pushes-requires : tie.Need-lane-pushes-requires
 lane-pushes-requires c κs =
     let pre = c .before .before .before .before .before .before .before .before .before .before .pre in
     let right2 = c .before .before .before .before .right2 in
-    omega (arith, rw (right2 .given .1) at (pre .3 .symbols))
+    omega (arith, rw (right2 .given .1) at (pre .5 .symbols))
 
 lane-cell-requires-3 : tie.Need-lane-cell-requires-3
 lane-cell-requires-3 c κs = search needs
@@ -63,18 +66,24 @@ lane-cell-requires-4 : tie.Need-lane-cell-requires-4
 lane-cell-requires-4 c κs =
     let pre = c .before .before .before .before .before .before .before .before .before .before .before .before .before .before .before .before .pre in
     let right2 = c .before .before .before .before .before .before .before .before .before .before .right2 in
-    omega (arith, rw (right2 .given .1) at (pre .3 .symbols))
+    omega (arith, rw (right2 .given .1) at (pre .5 .symbols))
 
-row-requires-2 : tie.Need-row-requires-2
-row-requires-2 c κs =
+sub-usual-row : tie.Need-sub-usual-row
+sub-usual-row c = search needs
+
+mul-usual-row-2 : tie.Need-mul-usual-row-2
+mul-usual-row-2 c = search needs
+
+usual-row-requires-2 : tie.Need-usual-row-requires-2
+usual-row-requires-2 c κs =
     let pre = c .before .before .before .before .before .before .before .before .before .before .before .before .before .before .before .before .before .pre in
     let right2 = c .before .before .before .before .before .before .before .before .before .before .before .right2 in
-    omega (arith, rw (right2 .given .1) at (pre .3 .symbols), pre)
+    omega (arith, rw (right2 .given .1) at (pre .5 .symbols), pre)
 
 add-result : tie.Need-add-result
 add-result c =
     let pre = c .before .before .before .before .before .before .before .before .before .before .before .before .before .before .before .before .before .before .before .before .pre in
-    omega (arith, pre .2)
+    omega (arith, pre .3, pre .4)
 
 returns : tie.Need-returns
 returns c = (rw (c .enum-told .given .1) (unchanged _), omega arith)
@@ -87,7 +96,7 @@ returns-2 c =
     let right = c .before .before .before .before .before .before .before .before .right in
     let lane-cell = c .before .before .before .before .before .lane-cell in
     let lane-cell2 = c .before .before .before .lane-cell2 in
-    let row = c .before .before .row in
+    let row = c .before .before .usual-row in
     (rw (right .given .1) (rw (lane-cell .ensures, lane-cell2 .ensures) at (row .ensures .0)), omega arith)
 
 same-length-2 : tie.Need-same-length-2
@@ -100,8 +109,8 @@ returns-3 c =
     let lane-pushes = c .before .before .before .before .before .before .before .before .before .lane-pushes in
     let lane-cell3 = c .before .before .before .before .before .lane-cell3 in
     let lane-cell4 = c .before .before .before .lane-cell4 in
-    let row2 = c .before .before .row2 in
-    (rw (right2 .given .1) (then (lane-pushes .ensures .0) (rw (lane-cell3 .ensures, lane-cell4 .ensures) at (row2 .ensures .0))), omega (arith, pre .2))
+    let row2 = c .before .before .usual-row2 in
+    (rw (right2 .given .1) (then (lane-pushes .ensures .0) (rw (lane-cell3 .ensures, lane-cell4 .ensures) at (row2 .ensures .0))), omega (arith, pre .3, pre .4))
 
 pub lane-rule-spec : {M : Type 1} → statement M
 lane-rule-spec =
@@ -115,7 +124,8 @@ lane-rule-spec =
     lane-cell-requires
     cast-lane-cell
     lane-cell-requires-2
-    row-requires
+    mul-usual-row
+    usual-row-requires
     enum-known-right-2
     cast-lane-pushes
     cast-lane-pushes-2
@@ -123,7 +133,9 @@ lane-rule-spec =
     lane-cell-requires-3
     cast-lane-cell-2
     lane-cell-requires-4
-    row-requires-2
+    sub-usual-row
+    mul-usual-row-2
+    usual-row-requires-2
     add-result
     returns
     same-length

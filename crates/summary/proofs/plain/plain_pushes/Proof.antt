@@ -1,5 +1,6 @@
 -- `plain_pushes` meets its contract. The invariant: the states below q are relaxed.
 use Prim.Native.Nat.{_-_}
+use native.Mathlib.Omega.{arith}
 use borrow.Author.Needs.{needs}
 use Rattle.summary.specs.Cells.{plain}
 use Rattle.summary.specs.Edges.{Row}
@@ -8,11 +9,11 @@ use Rattle.summary.proofs.plain.plain_pushes.Statement.{statement}
 use Rattle.summary.proofs.plain.plain_pushes.Tie as tie
 
 abbrev Inv-loop : tie.InvT-loop
-Inv-loop table₀ g p top h a b changes₀ q₀ table changes q =
-    Turning 8 (λ q. Row 1 (plain p top 0) (plain h a q) (plain q b 0) 8) g table₀ table changes q
+Inv-loop table₀ dests g p top h a b changes₀ q₀ table changes q =
+    Turning 12 (λ q. Row 1 (plain p top 0) (plain h a q) (plain q b 0) dests) g table₀ table changes q
 
 abbrev μ-loop : tie.MeasureT-loop
-μ-loop table₀ g p top h a b changes₀ q₀ table changes q = g - q
+μ-loop table₀ dests g p top h a b changes₀ q₀ table changes q = g - q
 
 loop-holds : tie.Need-loop-holds Inv-loop μ-loop
 loop-holds c = starts _ _ _ _
@@ -26,8 +27,8 @@ plain-cell-requires-2 c κs = search needs
 plain-cell-requires-3 : tie.Need-plain-cell-requires-3 Inv-loop μ-loop
 plain-cell-requires-3 c κs = search needs
 
-row-requires : tie.Need-row-requires Inv-loop μ-loop
-row-requires c κs = search needs
+usual-row-requires : tie.Need-usual-row-requires Inv-loop μ-loop
+usual-row-requires c κs = search needs
 
 add-changes : tie.Need-add-changes Inv-loop μ-loop
 add-changes c = search needs
@@ -45,9 +46,9 @@ loop-again c =
     let plain-cell = c .before .before .before .before .before .plain-cell in
     let plain-cell2 = c .before .before .before .before .plain-cell2 in
     let plain-cell3 = c .before .before .before .plain-cell3 in
-    let row = c .before .before .row in
+    let row = c .before .before .usual-row in
     turns (loop .inv) (loop-test .taken) (rw (plain-cell .ensures, plain-cell2 .ensures, plain-cell3 .ensures) at (row .ensures .0))
-    (row .ensures .1)
+    (omega arith)
 
 same-length : tie.Need-same-length Inv-loop μ-loop
 same-length c = search needs
@@ -65,7 +66,7 @@ plain-pushes-spec =
     plain-cell-requires
     plain-cell-requires-2
     plain-cell-requires-3
-    row-requires
+    usual-row-requires
     add-changes
     add-q
     loop-less

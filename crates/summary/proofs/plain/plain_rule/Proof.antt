@@ -36,10 +36,10 @@ plain-cell-requires-3 : tie.Need-plain-cell-requires-3
 plain-cell-requires-3 c κs =
     let pre = c .before .before .before .before .before .before .before .before .before .before .pre in
     let right = c .before .before .before .before .right in
-    omega (arith, rw (right .given .1) at (pre .2 .symbols))
+    omega (arith, rw (right .given .1) at (pre .4 .symbols))
 
-row-requires-2 : tie.Need-row-requires-2
-row-requires-2 c κs = search needs
+usual-row-requires : tie.Need-usual-row-requires
+usual-row-requires c κs = search needs
 
 enum-known-right-2 : tie.Need-enum-known-right-2
 enum-known-right-2 c = search needs
@@ -54,7 +54,7 @@ plain-pushes-requires : tie.Need-plain-pushes-requires
 plain-pushes-requires c κs =
     let pre = c .before .before .before .before .before .before .before .before .before .before .pre in
     let right2 = c .before .before .before .before .right2 in
-    omega (arith, rw (right2 .given .1) at (pre .2 .symbols))
+    omega (arith, rw (right2 .given .1) at (pre .4 .symbols))
 
 plain-cell-requires-4 : tie.Need-plain-cell-requires-4
 plain-cell-requires-4 c κs = search needs
@@ -66,10 +66,13 @@ plain-cell-requires-5 : tie.Need-plain-cell-requires-5
 plain-cell-requires-5 c κs =
     let pre = c .before .before .before .before .before .before .before .before .before .before .before .before .before .before .before .before .pre in
     let right2 = c .before .before .before .before .before .before .before .before .before .before .right2 in
-    omega (arith, rw (right2 .given .1) at (pre .2 .symbols))
+    omega (arith, rw (right2 .given .1) at (pre .4 .symbols))
 
-row-requires-3 : tie.Need-row-requires-3
-row-requires-3 c κs = search needs
+sub-usual-row : tie.Need-sub-usual-row
+sub-usual-row c = search needs
+
+usual-row-requires-2 : tie.Need-usual-row-requires-2
+usual-row-requires-2 c κs = search needs
 
 add-result : tie.Need-add-result
 add-result c = search needs
@@ -92,7 +95,7 @@ returns-2 c =
     let right = c .before .before .before .before .before .before .before .before .right in
     let plain-cell2 = c .before .before .before .before .before .plain-cell2 in
     let plain-cell3 = c .before .before .before .plain-cell3 in
-    let row2 = c .before .before .row2 in
+    let row2 = c .before .before .usual-row in
     (rw (right .given .1) (rw (plain-cell2 .ensures, plain-cell3 .ensures) at (row2 .ensures .0)), omega arith)
 
 same-length-3 : tie.Need-same-length-3
@@ -105,8 +108,8 @@ returns-3 c =
     let plain-pushes = c .before .before .before .before .before .before .before .before .before .plain-pushes in
     let plain-cell4 = c .before .before .before .before .before .plain-cell4 in
     let plain-cell5 = c .before .before .before .plain-cell5 in
-    let row3 = c .before .before .row3 in
-    (rw (right2 .given .1) (then (plain-pushes .ensures .0) (rw (plain-cell4 .ensures, plain-cell5 .ensures) at (row3 .ensures .0))), omega (arith, pre .1))
+    let row3 = c .before .before .usual-row2 in
+    (rw (right2 .given .1) (then (plain-pushes .ensures .0) (rw (plain-cell4 .ensures, plain-cell5 .ensures) at (row3 .ensures .0))), omega (arith, pre .2, pre .3))
 
 pub plain-rule-spec : {M : Type 1} → statement M
 plain-rule-spec =
@@ -122,7 +125,7 @@ plain-rule-spec =
     plain-cell-requires-2
     cast-plain-cell
     plain-cell-requires-3
-    row-requires-2
+    usual-row-requires
     enum-known-right-2
     cast-plain-pushes
     cast-plain-pushes-2
@@ -130,7 +133,8 @@ plain-rule-spec =
     plain-cell-requires-4
     cast-plain-cell-2
     plain-cell-requires-5
-    row-requires-3
+    sub-usual-row
+    usual-row-requires-2
     add-result
     same-length
     returns

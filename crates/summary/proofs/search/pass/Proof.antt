@@ -12,11 +12,11 @@ use Rattle.summary.proofs.search.pass.Statement.{statement}
 use Rattle.summary.proofs.search.pass.Tie as tie
 
 abbrev Inv-loop : tie.InvT-loop
-Inv-loop table₀ kind g th count changes₀ i₀ table changes i =
-    Turning 1088 (λ r. RuleEdges kind g (ruleAt th r)) count table₀ table changes i × (length (th .rules) ≡ 64)
+Inv-loop table₀ kind dests g th count changes₀ i₀ table changes i =
+    Turning 1664 (λ r. RuleEdges kind dests g (ruleAt th r)) count table₀ table changes i × (length (th .rules) ≡ 64)
 
 abbrev μ-loop : tie.MeasureT-loop
-μ-loop table₀ kind g th count changes₀ i₀ table changes i = count - i
+μ-loop table₀ kind dests g th count changes₀ i₀ table changes i = count - i
 
 loop-holds : tie.Need-loop-holds Inv-loop μ-loop
 loop-holds c = (starts _ _ _ _, search (length-mapped, needs))
@@ -31,7 +31,7 @@ relax-requires : tie.Need-relax-requires Inv-loop μ-loop
 relax-requires c κs =
     let pre = c .before .before .before .before .before .pre in
     let loop-test = c .before .before .loop-test in
-    (search needs, search needs, search needs, pre .3 .rules _ (loop-test .taken))
+    (search needs, search needs, search needs, search needs, search needs, pre .5 .rules _ (loop-test .taken))
 
 add-changes : tie.Need-add-changes Inv-loop μ-loop
 add-changes c = search needs

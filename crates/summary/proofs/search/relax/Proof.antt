@@ -10,7 +10,7 @@ enum-told c = search needs
 plain-rule-requires : tie.Need-plain-rule-requires
 plain-rule-requires c κs =
     let pre = c .before .before .before .before .pre in
-    (pre .0, pre .1, pre .3)
+    (pre .0, pre .1, pre .2, pre .3, pre .5)
 
 enum-known-kind : tie.Need-enum-known-kind
 enum-known-kind c = search needs
@@ -18,7 +18,7 @@ enum-known-kind c = search needs
 lane-rule-requires : tie.Need-lane-rule-requires
 lane-rule-requires c κs =
     let pre = c .before .before .before .before .before .pre in
-    (pre .0, rw (c .before .before .kind .given .1) at (pre .2), pre .1, pre .3)
+    (pre .0, rw (c .before .before .kind .given .1) at (pre .4), pre .1, pre .2, pre .3, pre .5)
 
 enum-known-kind-2 : tie.Need-enum-known-kind-2
 enum-known-kind-2 c = search needs
@@ -26,7 +26,7 @@ enum-known-kind-2 c = search needs
 cross-rule-requires : tie.Need-cross-rule-requires
 cross-rule-requires c κs =
     let pre = c .before .before .before .before .before .pre in
-    (pre .0, rw (c .before .before .kind2 .given .1) at (pre .2), pre .1, pre .3)
+    (pre .0, rw (c .before .before .kind2 .given .1) at (pre .4), pre .2, pre .3, pre .5)
 
 same-length : tie.Need-same-length
 same-length c = search needs

@@ -10,16 +10,16 @@ use Rattle.summary.proofs.search.settle.Statement.{statement}
 use Rattle.summary.proofs.search.settle.Tie as tie
 
 abbrev Inv-loop : tie.InvT-loop
-Inv-loop table₀ kind g th changes₀ table changes = Closing (Rules th (RuleEdges kind g)) table₀ table changes
+Inv-loop table₀ kind dests g th changes₀ table changes = Closing (Rules th (RuleEdges kind dests g)) table₀ table changes
 
 abbrev μ-loop : tie.MeasureT-loop
-μ-loop table₀ kind g th changes₀ table changes = sum table + changes
+μ-loop table₀ kind dests g th changes₀ table changes = sum table + changes
 
 loop-holds : tie.Need-loop-holds Inv-loop μ-loop
 loop-holds c = opens _ _
 
 pass-requires : tie.Need-pass-requires Inv-loop μ-loop
-pass-requires c κs = (search needs, search needs, c .before .before .before .before .pre .2, c .before .before .before .before .pre .3)
+pass-requires c κs = let pre = c .before .before .before .before .pre in (search needs, pre .1, pre .2, search needs, pre .4, pre .5)
 
 loop-less : tie.Need-loop-less Inv-loop μ-loop
 loop-less c = search needs

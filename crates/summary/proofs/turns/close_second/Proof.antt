@@ -2,13 +2,17 @@
 -- from the whole table.
 use native.Mathlib.Omega.{arith}
 use borrow.Author.Needs.{needs}
-use Rattle.summary.specs.Cells.{second}
+use Rattle.summary.specs.Cells.{laneOf, second}
 use Rattle.summary.proofs.Relaxing.{then}
 use Rattle.summary.proofs.Exacts.{second-summed}
+use Rattle.summary.proofs.Joins.{dests-range}
 use Rattle.summary.proofs.Solving.{solves-next, apart}
 use Rattle.summary.proofs.Spans.{first-span, second-ends-span, cross-span, lane-span, either}
 use Rattle.summary.proofs.turns.close_second.Statement.{statement}
 use Rattle.summary.proofs.turns.close_second.Tie as tie
+
+dests-of-requires : tie.Need-dests-of-requires
+dests-of-requires c κs = search needs
 
 reset-requires : tie.Need-reset-requires
 reset-requires c κs = search needs
@@ -33,22 +37,23 @@ same-length c = search needs
 
 returns : tie.Need-returns
 returns c =
-    let pre = c .before .before .before .before .before .before .before .before .before .before .before .before .before .before .before .before .before .pre in
-    let reset = c .before .before .before .before .before .before .before .before .before .before .before .before .before .before .reset in
-    let second-ends = c .before .before .before .before .before .before .before .before .before .before .second-ends in
-    let pass = c .before .before .before .before .before .before .pass in
-    let settle = c .before .before .settle in
+    let pre = c .before .before .before .before .before .before .before .before .before .before .before .before .before .before .before .before .before .before .pre in
+    let dests = c .before .before .before .before .before .before .before .before .before .before .before .before .before .before .before .before .dests-of .ensures in
+    let args = c .before .before .before .before .before .before .before .before .before .before .before .before .before .before .before .before .before .before .args in
+    let second-ends = rw (dests .0) at (c .before .before .before .before .before .before .before .before .before .before .second-ends .ensures) in
+    let pass = rw (dests .0) at (c .before .before .before .before .before .before .pass .ensures .0) in
+    let settle = rw (dests .0) at (c .before .before .settle .ensures) in
     let both =
-    solves-next (omega arith) (omega arith) (first-span _ _ (pre .1) (pre .4))
-    (either (second-ends-span _ _ (pre .2) (pre .3)) (cross-span _ _ (pre .1) (pre .4) _ (omega arith)))
-    (lane-span _ _ (pre .1) (pre .4) second) (pre .5) (reset .ensures)
-    (then (second-ends .ensures) (pass .ensures .0)) (settle .ensures) in
-    (both .1, second-summed (pre .4) (pre .1) (apart (both .0)))
+    solves-next (omega arith) (omega arith) (first-span _ (args .top) _ (pre .1) (pre .4) (pre .5))
+    (either (second-ends-span _ _ _ (dests-range (args .top) .1) (pre .2) (pre .3)) (cross-span _ _ _ (dests-range (args .top) .1) (pre .1) (pre .5) (laneOf (args .o) (args .i)) (omega arith)))
+    (lane-span _ _ _ (dests-range (args .top) .1) (pre .1) (pre .5) second) (pre .6) (c .before .before .before .before .before .before .before .before .before .before .before .before .before .before .reset .ensures) (then second-ends pass) settle in
+    (both .1, second-summed (pre .5) (pre .4) (pre .1) (apart (both .0)))
 
 pub close-second-spec : {M : Type 1} → statement M
 close-second-spec =
     tie.close
     (tie.spec
+    dests-of-requires
     reset-requires
     second-ends-requires
     mul-lane

@@ -24,7 +24,9 @@ returns-2 c ends inside o i =
     let one = c .if2 .taken in rw one (c .before .before .before .close-first .ensures .1 ends (rw one at inside))
 
 close-second-requires : tie.Need-close-second-requires
-close-second-requires c κs = search needs
+close-second-requires c κs =
+    let p = c .before .before .before .before .before .before .before .before .before .before .before .before .pre in
+    (search needs, p .1, p .3, p .4, p .5, p .6, c .before .before .before .before .close-first .ensures .0)
 
 same-length-3 : tie.Need-same-length-3
 same-length-3 c = search needs

@@ -27,6 +27,7 @@ solve-requires c κs =
       omega
           (arith, e .1, c .before .byte2 .ensures .0),
       p .1 .4,
+      p .1 .5,
     )
 
 same-length : tie.Need-same-length

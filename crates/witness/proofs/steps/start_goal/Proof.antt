@@ -25,15 +25,17 @@ state-at-requires c κs =
     let s = c .before .before in
     (s .pre .0, s .pre .1, omega (arith, s .pre .2), full-value (s .args .g) _ (s .pre .4))
 
-add-t10 : tie.Need-add-t10
-add-t10 c = search needs
+stays-of-requires : tie.Need-stays-of-requires
+stays-of-requires c κs = search needs
+
+add-t12 : tie.Need-add-t12
+add-t12 c = search needs
 
 returns : tie.Need-returns
 returns c =
-    let a = c .before .before .before .args in
-    starts (a .id) (a .n) (a .start) (a .g) (a .v) (a .top) (c .before .before .first-state .ensures .0)
-    (c .before .before .first-state .ensures .1) (c .before .turn-of .ensures .0) (c .state-at .ensures .0)
-    (c .state-at .ensures .1)
+    let a = c .before .before .before .before .args in
+    starts (a .top) (a .id) (a .n) (a .start) (a .g) (a .v) (a .symbol) (c .stays-of .ensures .0) (c .before .before .before .first-state .ensures .0)
+    (c .before .before .before .first-state .ensures .1) (c .before .before .turn-of .ensures .0) (c .before .state-at .ensures .0) (c .before .state-at .ensures .1)
 
 pub start-goal-spec : {M : Type 1} → statement M
 start-goal-spec =
@@ -44,5 +46,6 @@ start-goal-spec =
     first-state-requires
     turn-of-requires
     state-at-requires
-    add-t10
+    stays-of-requires
+    add-t12
     returns)

@@ -14,7 +14,9 @@ slice-aggregate-prepare-2 : tie.Need-slice-aggregate-prepare-2
 slice-aggregate-prepare-2 c = search needs
 
 prepare-requires : tie.Need-prepare-requires
-prepare-requires c κs = search needs
+prepare-requires c κs =
+    let p = c .before .before .before .pre .0 in
+    ((search needs, search needs), (p .0, p .1, p .2, p .4, p .5, p .6))
 
 cast-start-goal : tie.Need-cast-start-goal
 cast-start-goal c = search needs
@@ -36,7 +38,7 @@ pair-requires c κs =
     let p = c11 .pre in
     let S = c .before .before .before .start-goal .ensures in
     let line = digits-states (a .g) (2 * suc (a .n)) (a .v) (p .0 .4) in
-    let r = ready (c7 .prepare .ensures) (p .0 .2) (p .0 .5) (length-digits (a .g) (2 * suc (a .n)) (a .v)) line (a .start)
+    let r = ready (c7 .prepare .ensures) (p .0 .2) (p .0 .6) (p .0 .5) (length-digits (a .g) (2 * suc (a .n)) (a .v)) line (a .start)
     (S .first) (S .last) in
     (rw (S .goal) r, (omega arith, p .1 .1, omega (arith, p .1 .2)))
 
@@ -54,10 +56,10 @@ returns c =
     let K = c10 .prepare .ensures in
     let size = length-digits (a .g) (2 * suc (a .n)) (a .v) in
     let line = digits-states (a .g) (2 * suc (a .n)) (a .v) (p .0 .4) in
-    written K (p .0 .2) (p .0 .5) size line (a .start) (S .first) (S .last)
-    (rw (S .goal) at (c .before .before .pair .ensures) (setting K (p .0 .2) (p .0 .5) size line) _
-    (stands K (p .0 .2) (p .0 .5) size line (a .start) (S .first) (S .last))
-    (splits K (p .0 .2) (p .0 .5) size line (a .start) (S .first) (S .last) (p .1 .1) (p .1 .0)))
+    written K (p .0 .2) (p .0 .6) (p .0 .5) size line (a .start) (S .first) (S .last)
+    (rw (S .goal) at (c .before .before .pair .ensures) (setting K (p .0 .2) (p .0 .6) (p .0 .5) size line) _
+    (stands K (p .0 .2) (p .0 .6) (p .0 .5) size line (a .start) (S .first) (S .last))
+    (splits K (p .0 .2) (p .0 .6) (p .0 .5) size line (a .start) (S .first) (S .last) (p .1 .1) (p .1 .0)))
 
 pub steps-spec : {M : Type 1} → statement M
 steps-spec =

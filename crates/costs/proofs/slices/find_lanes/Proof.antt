@@ -4,8 +4,8 @@ use mathlib.Core.Path.{_≡_}
 use Prim.Native.Nat.{_-_, _≤_}
 use Rattle.costs.specs.Lanes.{lineLane}
 use Rattle.costs.proofs.Front.{Front, front-start, front-next, front-all}
-use Rattle.costs.proofs.find_lanes.Statement.{statement}
-use Rattle.costs.proofs.find_lanes.Tie as tie
+use Rattle.costs.proofs.slices.find_lanes.Statement.{statement}
+use Rattle.costs.proofs.slices.find_lanes.Tie as tie
 
 abbrev Inv-loop : tie.InvT-loop
 Inv-loop lanes₀ g id count v₀ lanes v = (v ≤ count) × Front (λ v x. x ≡ lineLane id g 6 v 0) v lanes₀ lanes

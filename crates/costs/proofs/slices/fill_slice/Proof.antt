@@ -5,20 +5,23 @@ use Prim.Native.Nat.{_-_, _≤_}
 use native.Mathlib.Nat.{le-refl}
 use borrow.Author.Needs.{needs}
 use lib.Dec.{eqb}
+use Rattle.model.specs.declared.Top.{Top}
+use Rattle.summary.specs.Cells.{staysOf}
 use lib.ListN.{getD}
 use Rattle.costs.specs.Lanes.{lineLane, costOf}
 use Rattle.costs.proofs.Front.{Front, front-start, front-next, front-all}
-use Rattle.costs.proofs.fill_slice.Statement.{statement}
-use Rattle.costs.proofs.fill_slice.Tie as tie
+use Rattle.costs.proofs.slices.fill_slice.Statement.{statement}
+use Rattle.costs.proofs.slices.fill_slice.Tie as tie
 
 abbrev Inv-loop : tie.InvT-loop
-Inv-loop table costs₀ lanes g id start top lane count v₀ costs v =
+Inv-loop table costs₀ lanes g id start symbol stays lane count v₀ costs v =
     (v ≤ count)
-    × Front (λ v x. x ≡ cond (eqb (lineLane id g 6 v 0) lane) (costOf id table g 2 start top v) (getD costs₀ v 0)) v
-    costs₀ costs
+    × Front
+    (λ v x. (f : Top) → stays ≡ staysOf f → x ≡ cond (eqb (lineLane id g 6 v 0) lane) (costOf id table g 2 start symbol f v) (getD costs₀ v 0))
+    v costs₀ costs
 
 abbrev μ-loop : tie.MeasureT-loop
-μ-loop table costs₀ lanes g id start top lane count v₀ costs v = count - v
+μ-loop table costs₀ lanes g id start symbol stays lane count v₀ costs v = count - v
 
 power-requires : tie.Need-power-requires Inv-loop μ-loop
 power-requires c κs = search needs
@@ -35,7 +38,7 @@ slice-read-slice-cost c = search needs
 slice-cost-requires : tie.Need-slice-cost-requires Inv-loop μ-loop
 slice-cost-requires c κs =
     let start = c .before .before .before .before .before .before .before in
-    ((search needs, search needs, search needs, search needs, search needs, search needs), (search needs, start .pre .1 .1))
+    ((search needs, search needs, search needs, search needs, search needs, search needs, search needs), (search needs, start .pre .1 .1))
 
 mul-costs : tie.Need-mul-costs Inv-loop μ-loop
 mul-costs c = search needs
@@ -59,7 +62,9 @@ same-length : tie.Need-same-length Inv-loop μ-loop
 same-length c = search needs
 
 returns : tie.Need-returns Inv-loop μ-loop
-returns c = let loop = c .before .loop in front-all (loop .inv .1) (c .before .before .power .ensures .0) (c .loop-test .left)
+returns c f k v h =
+    let loop = c .before .loop in
+    front-all (loop .inv .1) (c .before .before .power .ensures .0) (c .loop-test .left) v h f k
 
 pub fill-slice-spec : {M : Type 1} → statement M
 fill-slice-spec =

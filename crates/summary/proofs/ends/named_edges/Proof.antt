@@ -1,0 +1,68 @@
+-- `named_edges` meets its contract. The invariant: the states below q are relaxed.
+use Prim.Native.Nat.{_+_, _-_}
+use borrow.Author.Needs.{needs}
+use Rattle.summary.specs.Cells.{plain, rest}
+use Rattle.summary.specs.Edges.{Row}
+use Rattle.summary.proofs.Loops.{Turning, starts, turns, ends}
+use Rattle.summary.proofs.ends.named_edges.Statement.{statement}
+use Rattle.summary.proofs.ends.named_edges.Tie as tie
+
+abbrev Inv-loop : tie.InvT-loop
+Inv-loop table₀ g symbol changes₀ q₀ table changes q =
+    Turning 1 (λ q. Row 0 (plain q symbol (8 + q)) rest rest 1) g table₀ table changes q
+
+abbrev μ-loop : tie.MeasureT-loop
+μ-loop table₀ g symbol changes₀ q₀ table changes q = g - q
+
+cast-symbol : tie.Need-cast-symbol Inv-loop μ-loop
+cast-symbol c = search needs
+
+loop-holds : tie.Need-loop-holds Inv-loop μ-loop
+loop-holds c = starts _ _ _ _
+
+add-plain-cell : tie.Need-add-plain-cell Inv-loop μ-loop
+add-plain-cell c = search needs
+
+plain-cell-requires : tie.Need-plain-cell-requires Inv-loop μ-loop
+plain-cell-requires c κs = search needs
+
+row-requires : tie.Need-row-requires Inv-loop μ-loop
+row-requires c κs = search needs
+
+add-changes : tie.Need-add-changes Inv-loop μ-loop
+add-changes c = search needs
+
+add-q : tie.Need-add-q Inv-loop μ-loop
+add-q c = search needs
+
+loop-less : tie.Need-loop-less Inv-loop μ-loop
+loop-less c = search needs
+
+loop-again : tie.Need-loop-again Inv-loop μ-loop
+loop-again c =
+    let row = c .before .before .row in
+    turns (c .before .before .before .before .before .before .loop .inv) (c .before .before .before .before .before .loop-test .taken) (rw (c .before .before .before .plain-cell .ensures) at (row .ensures .0)) (row .ensures .1)
+
+same-length : tie.Need-same-length Inv-loop μ-loop
+same-length c = search needs
+
+returns : tie.Need-returns Inv-loop μ-loop
+returns c = ends (c .before .loop .inv) (c .loop-test .left) .0
+
+pub named-edges-spec : {M : Type 1} → statement M
+named-edges-spec =
+    tie.close
+    (tie.spec
+    Inv-loop
+    μ-loop
+    cast-symbol
+    loop-holds
+    add-plain-cell
+    plain-cell-requires
+    row-requires
+    add-changes
+    add-q
+    loop-less
+    loop-again
+    same-length
+    returns)
