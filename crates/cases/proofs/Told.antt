@@ -17,7 +17,7 @@ use Rattle.model.specs.Walk.{Stacks, startStacks, Step, hasTop, underTops, atTa
 use Rattle.model.proofs.Positions.{value-below, digits-value}
 use Rattle.model.proofs.Tests.{both, order, equal}
 use Rattle.model.proofs.Turns.{legal-full}
-use Rattle.cases.proofs.Explored.{closed, arrives, At, passes}
+use Rattle.cases.proofs.Explored.{closed, arrives, passes}
 use Rattle.cases.proofs.Abstracts.{Abstract, Describes}
 use Rattle.cases.proofs.Scans.{either, all, alike, alike-refl, below, at-below}
 use Rattle.cases.proofs.Search.{finds, finds-run}

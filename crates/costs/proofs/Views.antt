@@ -11,7 +11,7 @@ use Rattle.model.specs.declared.Model.{Model}
 use Rattle.model.specs.Rules.{ruleAt, applies, put}
 use Rattle.model.specs.Runs.{Turns, stop, end, move, Marked, EndsUnder}
 use Rattle.model.specs.declared.Top.{Top}
-use Rattle.model.specs.declared.Top.the-variants.{Any, Named}
+use Rattle.model.specs.declared.Top.the-variants.{Any}
 use Rattle.model.specs.declared.ThreadId.{ThreadId}
 use Rattle.model.specs.declared.ThreadId.the-variants.{A, B}
 use Rattle.model.specs.Walk.{other, ownerOf, threadOf, Stacks, stackOf, withStack, startStacks, hasTop, underTops, Step}

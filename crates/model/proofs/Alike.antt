@@ -1,13 +1,12 @@
 -- Unused rule places change nothing: a rule that applies is in the list, so models that are the same make the same walks
 -- and runs, and have the same marked lines and the same verdict.
 use mathlib.Core.List.{List, [], _∷_}
-use mathlib.Core.Path.{_≡_, refl, sym, ap, fun-ext}
+use mathlib.Core.Path.{_≡_, refl, sym, fun-ext}
 use Prim.Native.Nat.{ℕ, _<_}
 use native.Mathlib.Decide.{decLt}
 use native.Mathlib.Omega.{arith}
 use borrow.Author.Tests.{le-ltb}
 use Rattle.model.specs.declared.Model.{Model}
-use Rattle.model.specs.declared.Shared.{Shared}
 use Rattle.model.specs.declared.Thread.{Thread}
 use Rattle.model.specs.Rules.{applies}
 use Rattle.model.specs.Runs.{Leads, Reaches, Turns, stop, end, move, Marked}

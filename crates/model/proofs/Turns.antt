@@ -11,7 +11,7 @@ use lib.Seq.{take-append-seam}
 use Rattle.model.specs.declared.Model.{Model}
 use Rattle.model.specs.Lines.{lastOf}
 use Rattle.model.specs.Results.{accepted}
-use Rattle.model.specs.Runs.{Leads, Turns, stop, end, move, RunOf, Marked, TurnsBelow, Along}
+use Rattle.model.specs.Runs.{Leads, Turns, stop, end, move, Marked, TurnsBelow, Along}
 use Rattle.model.specs.Walk.{Stacks, startStacks, Config, Step, after, stepFrom, walk}
 use Rattle.model.proofs.Results.{through}
 use Rattle.model.proofs.Steps.{Stepped, steps, stepped}

@@ -9,7 +9,7 @@ use Rattle.model.specs.declared.Symbol.{Symbol}
 use Rattle.model.specs.declared.Top.{Top}
 use Rattle.model.specs.declared.Top.the-variants.{Any, Named}
 use Rattle.model.specs.Walk.{hasTop}
-use Rattle.summary.specs.Stretch.{pop, stay, OnTop, Path, Stretch}
+use Rattle.summary.specs.Stretch.{pop, stay, Path, Stretch}
 
 -- What lies below a top does not matter to it.
 pub on-top : (top : Top) (γ : ℕ) (v w : List ℕ) → T (hasTop top (γ ∷ v)) → T (hasTop top (γ ∷ w))

@@ -8,7 +8,6 @@ use Rattle.model.specs.declared.Top.the-variants.{Any}
 use Rattle.summary.specs.Cells.{second, First, Solved}
 use Rattle.summary.specs.Control.{any}
 use Rattle.costs.specs.Cost.{WhereNamed}
-use Rattle.costs.specs.Lanes.{fullLines, CostsTo, SliceOff}
 use Rattle.costs.proofs.Filled.{Filled, where-map, where-both, known-fewer, known-next, known-left}
 use Rattle.costs.proofs.slices.fill_from.Statement.{statement}
 use Rattle.costs.proofs.slices.fill_from.Tie as tie
