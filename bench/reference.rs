@@ -81,7 +81,7 @@ pub fn judge(record: &[u8], store: &mut [u8], schedule: &mut [u8]) -> u64 {
         return LONG;
     }
     witness::write(&model, line, a[line], b[line], schedule);
-    packed(FOUND, steps)
+    packed(FOUND, u64::from(steps))
 }
 
 pub fn replay(record: &[u8], schedule: &[u8]) -> u64 {
@@ -113,7 +113,7 @@ fn bytes_for(m: &Model) -> usize {
 }
 
 // The full line to the target with the fewest steps of both threads together.
-fn choose(m: &Model, a: &[u64], b: &[u64]) -> (u64, usize) {
+fn choose(m: &Model, a: &[u16], b: &[u16]) -> (u16, usize) {
     let mut best = (table::NONE, 0);
     for v in (m.target..m.g.pow(2 * m.k as u32)).step_by(m.g) {
         let steps = table::joined(a[v], b[v], best.0);
@@ -125,7 +125,7 @@ fn choose(m: &Model, a: &[u64], b: &[u64]) -> (u64, usize) {
 }
 
 // Bit p stands where both threads can follow the full line of place p.
-fn draw(m: &Model, a: &[u64], b: &[u64], store: &mut [u8]) {
+fn draw(m: &Model, a: &[u16], b: &[u16], store: &mut [u8]) {
     let bits = line_bits(m);
     for (at, byte) in store[..bits.div_ceil(8)].iter_mut().enumerate() {
         *byte = 0;

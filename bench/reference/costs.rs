@@ -20,13 +20,13 @@ pub struct Ends {
 
 // The costs to any top, for the line table, and to the named one, where there is one, for the verdict.
 pub struct Costs {
-    pub any: Vec<u64>,
-    named: Option<Vec<u64>>,
+    pub any: Vec<u16>,
+    named: Option<Vec<u16>>,
 }
 
 impl Costs {
     // Those that the verdict is about.
-    pub fn asked(&self) -> &[u64] {
+    pub fn asked(&self) -> &[u16] {
         self.named.as_ref().unwrap_or(&self.any)
     }
 }
@@ -101,7 +101,7 @@ impl Part<'_> {
     }
 
     // The lines whose first turn end is (o, i): `heads` states stand before it, `tails` ways to go on after it.
-    fn slice(&self, t: &Table, stays: usize, o: usize, i: usize, costs: &mut [u64]) {
+    fn slice(&self, t: &Table, stays: usize, o: usize, i: usize, costs: &mut [u16]) {
         let g = self.g;
         let heads = g.pow(self.other as u32);
         let tails = costs.len() / heads / (g * g);
@@ -115,7 +115,7 @@ impl Part<'_> {
 
     // The first symbol still stands at the end, or it has gone after j turn ends and the floor stands until the end; to a top whose
     // destinations start at `stays`.
-    fn line_cost(&self, t: &Table, stays: usize, v: usize) -> u64 {
+    fn line_cost(&self, t: &Table, stays: usize, v: usize) -> u16 {
         let Ends { from, to, lanes } = self.ends(v);
         let lane_to = |j| if j == 1 { lanes[0] } else { lanes[1] };
         let symbol = self.thread.first;

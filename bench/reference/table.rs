@@ -1,8 +1,8 @@
 // Least step counts of one thread, by the turn ends inside a stretch: none, one (16 lanes), or two of which the first is fixed.
 use super::{Right, Thread};
 
-pub const LONG: u64 = 4096;
-pub const NONE: u64 = 4097;
+pub const LONG: u16 = 4096;
+pub const NONE: u16 = 4097;
 pub const FLOOR: usize = 16;
 
 // The first destination of staying under any top, and under the named one.
@@ -17,7 +17,7 @@ const REST: usize = 4;
 
 // `dests` of the 12 destinations are in use: 8, or 12 where a top is named.
 pub struct Table {
-    cells: Vec<u64>,
+    cells: Vec<u16>,
     dests: usize,
 }
 
@@ -32,11 +32,23 @@ fn lane_place(base: usize, g: usize, s: usize, d: usize) -> usize {
 }
 
 // The lesser of a count and of two stretches one after the other.
-pub fn joined(x: u64, y: u64, old: u64) -> u64 {
+pub fn joined(x: u16, y: u16, old: u16) -> u16 {
     if x > LONG || y > LONG {
         return old;
     }
     old.min((x + y).min(LONG))
+}
+
+// Each cell falls to what the other row offers it, w more than is there. Whether a cell has fallen. Without a branch, so that the
+// compiler does eight cells at once.
+fn offer(to: &mut [u16], from: &[u16], w: u16) -> bool {
+    let mut changes = 0;
+    for (old, &y) in to.iter_mut().zip(from) {
+        let new = (*old).min(y.max((w + y).min(LONG)));
+        changes += u16::from(new < *old);
+        *old = new;
+    }
+    changes != 0
 }
 
 impl Table {
@@ -45,7 +57,7 @@ impl Table {
     }
 
     // The entry of a stretch with `gap` turn ends inside, the last of them in this lane.
-    pub fn entry(&self, gap: usize, g: usize, s: usize, d: usize, lane: usize) -> u64 {
+    pub fn entry(&self, gap: usize, g: usize, s: usize, d: usize, lane: usize) -> u16 {
         match gap {
             0 => self.cells[place(g, s, d)],
             1 => self.cells[lane_place(FIRST, g, s, d) + lane],
@@ -106,15 +118,7 @@ impl Table {
         let Ok([to, from]) = self.cells.get_disjoint_mut([k..k + n, b..b + n]) else {
             return false;
         };
-        let mut changed = false;
-        for (old, &y) in to.iter_mut().zip(from.iter()) {
-            let new = (x + 1 + y).min(LONG);
-            if y <= LONG && new < *old {
-                *old = new;
-                changed = true;
-            }
-        }
-        changed
+        offer(to, from, x + 1)
     }
 
     fn plain_pass(&mut self, n: usize, th: &Thread) -> bool {

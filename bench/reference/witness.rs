@@ -20,7 +20,7 @@ struct Writer<'a> {
     out: Vec<[u8; 2]>,
 }
 
-pub fn write(m: &Model, v: usize, x: u64, y: u64, schedule: &mut [u8]) {
+pub fn write(m: &Model, v: usize, x: u16, y: u16, schedule: &mut [u8]) {
     let [a, b] = parts(m);
     let (a, b) = (steps(&a, v, x), steps(&b, v, y));
     let (mut i, mut j) = (0, 0);
@@ -35,7 +35,7 @@ pub fn write(m: &Model, v: usize, x: u64, y: u64, schedule: &mut [u8]) {
     }
 }
 
-fn steps(part: &Part, v: usize, count: u64) -> Vec<[u8; 2]> {
+fn steps(part: &Part, v: usize, count: u16) -> Vec<[u8; 2]> {
     let ends = part.ends(v);
     let mut table = Table::new();
     table.close_plain(part.g, part.top, part.thread);
@@ -54,7 +54,7 @@ fn steps(part: &Part, v: usize, count: u64) -> Vec<[u8; 2]> {
 }
 
 impl Writer<'_> {
-    fn entry(&self, goal: Goal) -> u64 {
+    fn entry(&self, goal: Goal) -> u16 {
         if goal.until < goal.passed {
             return NONE;
         }
@@ -62,7 +62,7 @@ impl Writer<'_> {
         self.table.entry(goal.until - goal.passed, goal.shared, goal.symbol, goal.dest, lane)
     }
 
-    fn stretch(&mut self, goal: Goal, count: u64) {
+    fn stretch(&mut self, goal: Goal, count: u16) {
         if count == 0 {
             return;
         }
@@ -81,7 +81,7 @@ impl Writer<'_> {
         }
     }
 
-    fn pair(&mut self, goal: Goal, below: usize, count: u64) {
+    fn pair(&mut self, goal: Goal, below: usize, count: u16) {
         if self.above(goal, count) {
             return self.stretch(goal, count);
         }
@@ -93,7 +93,7 @@ impl Writer<'_> {
     }
 
     // Whether a rule is a first step after which as many steps are left as the table says.
-    fn suits(&self, goal: Goal, count: u64, rule: &Rule) -> bool {
+    fn suits(&self, goal: Goal, count: u16, rule: &Rule) -> bool {
         if rule.before != goal.shared || rule.symbol != goal.symbol {
             return false;
         }
@@ -107,12 +107,12 @@ impl Writer<'_> {
         }
     }
 
-    fn above(&self, goal: Goal, count: u64) -> bool {
+    fn above(&self, goal: Goal, count: u16) -> bool {
         goal.dest >= 4 && self.entry(goal) == count
     }
 
     // Where the first symbol of a pair can be gone, so that both parts add up.
-    fn middle(&self, goal: Goal, below: usize, count: u64) -> Option<(Goal, Goal)> {
+    fn middle(&self, goal: Goal, below: usize, count: u16) -> Option<(Goal, Goal)> {
         (0..3).flat_map(|turn| (0..self.part.g).map(move |state| (turn, state))).find_map(|(turn, state)| {
             let first = Goal { until: turn, dest: state, ..goal };
             let rest = Goal { passed: turn, shared: state, symbol: below, ..goal };

@@ -2,7 +2,7 @@
 use mathlib.Core.List.{List}
 use mathlib.Core.Path.{_≡_, refl}
 use Prim.Native.Nat.{ℕ, zero, suc, _+_, _-_, _*_, _≤_}
-use native.Mathlib.Nat.{sub-zero, add-zero, zero-add}
+use native.Mathlib.Nat.{sub-zero}
 use native.Mathlib.Numerals.{add-one}
 use native.Mathlib.Omega.{arith}
 use lib.ListN.{getD}
@@ -16,7 +16,6 @@ use Rattle.summary.specs.Stretch.{End, pop, stay, endOf}
 use Rattle.costs.specs.Cost.{control, overStates, overTurns}
 use Rattle.costs.specs.Ends.{turnOf, endsOf}
 use Rattle.costs.specs.Lanes.{cellAt, endLane, LaneTo}
-use Rattle.summary.specs.Table.{cap}
 
 -- The cell of a stretch, by the lane.
 pub cell-at : (ends : ℕ → TurnEnd) (k p q g γ d l : ℕ) → q ≡ p + k → k ≤ 2 → LaneTo ends q l
@@ -67,11 +66,6 @@ lane-two ends zero l e two h = tt
 lane-two ends (suc zero) l e two h = absurd (e refl)
 lane-two ends (suc (suc zero)) l e two h = h
 lane-two ends (suc (suc (suc j))) l e two h = absurd (omega arith)
-
--- A first part that is reached is as good as a weight.
-pub best-first : (x y old : ℕ) → x ≤ cap → bestOf x 0 y old ≡ bestOf 0 x y old
-unfolding bestOf
-best-first x y old h = rw (le-leb x cap h, add-zero, zero-add)
 
 -- One number of turn ends more.
 pub turn-more : (ends : ℕ → TurnEnd) (tab : List ℕ) (c d : Control) (top : Top) (γ G j best new : ℕ)

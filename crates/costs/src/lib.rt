@@ -33,7 +33,7 @@ pub const STAYS: usize = 4;
 pub const NAMED: usize = 8;
 
 // The costs of all full lines of both threads of a model in range, to any top. The table is for the search.
-pub fn lines(m: Model, table: &mut [u64], a: &mut [u64], b: &mut [u64])
+pub fn lines(m: Model, table: &mut [u16], a: &mut [u16], b: &mut [u16])
     requires { ⌜ Fits m ⌝ ∗ ⌜ (length (now table) ≡ size) × (length (now a) ≡ fullLines) × (length (now b) ≡ fullLines) ⌝ }
     ensures { λ _. ⌜ BothCosts m Any Any (now (a .exit)) (now (b .exit)) ⌝ }
 {
@@ -41,13 +41,13 @@ pub fn lines(m: Model, table: &mut [u64], a: &mut [u64], b: &mut [u64])
     let n = m.k as usize - 1;
     let start = m.start.0 as usize;
     // no top is named, so the list for it is not looked at
-    let mut none = [0u64; 1];
+    let mut none = [0u16; 1];
     fill(table, a, &mut none, g, n, ThreadId::A, start, Top::Any, m.a);
     fill(table, b, &mut none, g, n, ThreadId::B, start, Top::Any, m.b);
 }
 
 // The same, and in x and y those to the tops that the model names.
-pub fn both(m: Model, table: &mut [u64], a: &mut [u64], b: &mut [u64], x: &mut [u64], y: &mut [u64])
+pub fn both(m: Model, table: &mut [u16], a: &mut [u16], b: &mut [u16], x: &mut [u16], y: &mut [u16])
     requires { ⌜ Fits m ⌝ ∗ ⌜ (length (now table) ≡ size) × (length (now a) ≡ fullLines) × (length (now b) ≡ fullLines) ⌝
         ∗ ⌜ (length (now x) ≡ fullLines) × (length (now y) ≡ fullLines) ⌝ }
     ensures lines { λ _. ⌜ BothCosts m Any Any (now (a .exit)) (now (b .exit)) ⌝ }
@@ -67,9 +67,9 @@ pub fn both(m: Model, table: &mut [u64], a: &mut [u64], b: &mut [u64], x: &mut [
 
 // The costs of all full lines of a thread with n turn ends: to any top, and to the named one.
 fn fill(
-    table: &mut [u64],
-    costs: &mut [u64],
-    named: &mut [u64],
+    table: &mut [u16],
+    costs: &mut [u16],
+    named: &mut [u16],
     g: usize,
     n: usize,
     id: ThreadId,
@@ -102,8 +102,8 @@ fn fill(
 
 // The costs of all full lines to the named top, where there is one.
 fn fill_named(
-    table: &[u64],
-    named: &mut [u64],
+    table: &[u16],
+    named: &mut [u16],
     g: usize,
     n: usize,
     id: ThreadId,
@@ -124,8 +124,8 @@ fn fill_named(
 
 // The costs of all full lines, to a top whose destinations start at `stays`.
 fn fill_all(
-    table: &[u64],
-    costs: &mut [u64],
+    table: &[u16],
+    costs: &mut [u16],
     g: usize,
     n: usize,
     id: ThreadId,

@@ -9,7 +9,7 @@ use summary::cells::FIRST;
 use summary::cells::SECOND;
 use summary::cells::lane_cell;
 use summary::cells::plain_cell;
-use summary::edges::better;
+use summary::edges::least;
 ghost use mathlib.Core.Path.{_≡_};
 ghost use Prim.Native.Nat.{ℕ, suc, _+_, _*_, _^_, _≤_, _<_};
 ghost use lib.ListN.{length};
@@ -22,7 +22,7 @@ ghost use Rattle.costs.specs.Lanes.{cellAt, endLane, LaneTo, costOf};
 
 // The cost of the full line whose value is v, to a top whose destinations start at `stays`.
 pub fn line_cost(
-    table: &[u64],
+    table: &[u16],
     g: usize,
     n: usize,
     id: ThreadId,
@@ -30,7 +30,7 @@ pub fn line_cost(
     top: usize,
     stays: usize,
     v: usize,
-) -> u64
+) -> u16
     requires { ⌜
         (length (now table) ≡ size) × (1 ≤ g) × (g ≤ 4) × (n ≤ 2) × (start < g) × (top < 17) × (stays ≤ 8)
         × (v < g ^ (2 * suc n))
@@ -48,7 +48,7 @@ pub fn line_cost(
 // The cost of a thread that starts at a state with one symbol and ends n turn ends later at a destination of staying; a and b are
 // the lanes of the turn ends.
 fn pair_cost(
-    table: &[u64],
+    table: &[u16],
     g: usize,
     n: usize,
     from: usize,
@@ -56,7 +56,7 @@ fn pair_cost(
     to: usize,
     a: usize,
     b: usize,
-) -> u64
+) -> u16
     requires { ⌜
         (length (now table) ≡ size) × (g ≤ 4) × (n ≤ 2) × (from < 4) × (top < 17) × (to < 12) × (a < 16) × (b < 16)
         ⌝ }
@@ -79,7 +79,7 @@ fn pair_cost(
 // The least of a count and of the runs whose symbol goes after j turn ends; `before` and `last` are the lanes of the turn
 // ends before turns j and n.
 fn over_states(
-    table: &[u64],
+    table: &[u16],
     g: usize,
     n: usize,
     j: usize,
@@ -88,8 +88,8 @@ fn over_states(
     to: usize,
     before: usize,
     last: usize,
-    old: u64,
-) -> u64
+    old: u16,
+) -> u16
     requires { ⌜
         (length (now table) ≡ size) × (g ≤ 4) × (n ≤ 2) × (j ≤ n) × (from < 4) × (top < 17) × (to < 12) × (before < 16)
         × (last < 16)
@@ -111,17 +111,20 @@ fn over_states(
 }
 
 // The lesser of a count and of two stretches one after the other.
-pub fn joined(x: u64, y: u64, old: u64) -> u64
+pub fn joined(x: u16, y: u16, old: u16) -> u16
     ensures { λ r. ⌜ r ≡ bestOf 0 x y old ⌝ }
 {
     if CAP < x {
         return old;
     }
-    better(x, y, old)
+    if CAP < y {
+        return old;
+    }
+    least(old, least(x + y, CAP))
 }
 
 // The entry of a stretch with `gap` turn ends inside; `lane` is that of the last of them.
-pub fn entry_at(table: &[u64], gap: usize, q: usize, top: usize, d: usize, lane: usize) -> u64
+pub fn entry_at(table: &[u16], gap: usize, q: usize, top: usize, d: usize, lane: usize) -> u16
     requires { ⌜ (length (now table) ≡ size) × (gap ≤ 2) × (q < 4) × (top < 17) × (d < 12) × (lane < 16) ⌝ }
     ensures { λ r. ⌜ r ≡ cell (now (table .entry)) (cellAt gap q top d lane) ⌝ }
 {

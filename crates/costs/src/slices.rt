@@ -23,9 +23,9 @@ ghost use Rattle.costs.specs.Lanes.{fullLines, lineLane, costOf, CostsTo
 
 // The costs of all full lines with two turn ends.
 pub fn fill_ends(
-    table: &mut [u64],
-    costs: &mut [u64],
-    named: &mut [u64],
+    table: &mut [u16],
+    costs: &mut [u16],
+    named: &mut [u16],
     g: usize,
     id: ThreadId,
     start: usize,
@@ -63,9 +63,9 @@ fn find_lanes(lanes: &mut [usize], g: usize, id: ThreadId)
 
 // The costs of the full lines whose first turn end is left at o.
 fn fill_from(
-    table: &mut [u64],
-    costs: &mut [u64],
-    named: &mut [u64],
+    table: &mut [u16],
+    costs: &mut [u16],
+    named: &mut [u16],
     lanes: &[usize],
     g: usize,
     id: ThreadId,
@@ -96,8 +96,8 @@ fn fill_from(
 
 // The costs to the named top, where there is one, of the full lines whose first turn end has this lane.
 fn slice_named(
-    table: &[u64],
-    named: &mut [u64],
+    table: &[u16],
+    named: &mut [u16],
     lanes: &[usize],
     g: usize,
     id: ThreadId,
@@ -122,8 +122,8 @@ fn slice_named(
 
 // The costs of the full lines whose first turn end has this lane, to a top whose destinations start at `stays`.
 fn fill_slice(
-    table: &[u64],
-    costs: &mut [u64],
+    table: &[u16],
+    costs: &mut [u16],
     lanes: &[usize],
     g: usize,
     id: ThreadId,
@@ -150,7 +150,7 @@ fn fill_slice(
 
 // The cost of a full line with two turn ends where its first one has this lane, and else the old value.
 fn slice_cost(
-    table: &[u64],
+    table: &[u16],
     lanes: &[usize],
     g: usize,
     id: ThreadId,
@@ -159,8 +159,8 @@ fn slice_cost(
     stays: usize,
     lane: usize,
     v: usize,
-    old: u64,
-) -> u64
+    old: u16,
+) -> u16
     requires { ⌜
         (length (now table) ≡ size) × (1 ≤ g) × (g ≤ 4) × (start < g) × (symbol < 17) × (stays ≤ 8) × (v < g ^ 6)
         ⌝ ∗ ⌜ (v < length (now lanes)) × FirstLanes id g (now lanes) ⌝ }

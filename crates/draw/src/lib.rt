@@ -28,7 +28,7 @@ pub fn refusal(m: Model, size: usize) -> u8
 
 // The line table of a model in range, into a store that has room for it; `a` and `b` hold both threads' costs of all full lines to
 // any top.
-pub fn draw(m: Model, store: &mut [u8], a: &[u64], b: &[u64])
+pub fn draw(m: Model, store: &mut [u8], a: &[u16], b: &[u16])
     requires { ⌜ Fits m ⌝ ∗ ⌜ bytesFor (m .g) (m .k) ≤ length (now store) ⌝
         ∗ ⌜ (fullLines ≤ length (now a)) × (fullLines ≤ length (now b)) ⌝
         ∗ ⌜ BothCosts m Any Any (now a) (now b) ⌝ }
@@ -44,7 +44,7 @@ pub fn draw(m: Model, store: &mut [u8], a: &[u64], b: &[u64])
 }
 
 // The byte at `at` of the table, of a model with `count` lines: its highest bit first.
-fn byte_of(g: usize, k: usize, count: usize, at: usize, a: &[u64], b: &[u64]) -> u8
+fn byte_of(g: usize, k: usize, count: usize, at: usize, a: &[u16], b: &[u16]) -> u8
     requires { ⌜ (1 ≤ g) × (g ≤ 4) × (1 ≤ k) × (k ≤ 3) × (count ≡ bits g k) × (at ≤ 65536) ⌝ }
     requires { ⌜ (fullLines ≤ length (now a)) × (fullLines ≤ length (now b)) ⌝ }
     ensures { λ r. ⌜ Packs (DrawnAt g k (now (a .entry)) (now (b .entry))) r at ⌝ }
@@ -61,7 +61,7 @@ fn byte_of(g: usize, k: usize, count: usize, at: usize, a: &[u64], b: &[u64]) ->
 }
 
 // The bit at place p: 1 where both threads can follow its full line. There is none past the last line.
-fn bit_of(g: usize, k: usize, count: usize, p: usize, a: &[u64], b: &[u64]) -> u8
+fn bit_of(g: usize, k: usize, count: usize, p: usize, a: &[u16], b: &[u16]) -> u8
     requires { ⌜ (1 ≤ g) × (g ≤ 4) × (1 ≤ k) × (k ≤ 3) × (count ≡ bits g k) ⌝ }
     requires { ⌜ (fullLines ≤ length (now a)) × (fullLines ≤ length (now b)) ⌝ }
     ensures { λ r. ⌜ BitOf (DrawnAt g k (now (a .entry)) (now (b .entry)) p) r ⌝ }

@@ -9,7 +9,7 @@ use costs::parts::power;
 use summary::UNREACHED;
 
 // The best of all full lines that end in the target; `a` and `b` hold each line's least steps of the two threads.
-pub fn choose(g: usize, k: usize, target: usize, a: &[u64], b: &[u64]) -> Choice
+pub fn choose(g: usize, k: usize, target: usize, a: &[u16], b: &[u16]) -> Choice
     requires { ⌜ (1 ≤ g) × (g ≤ 4) × (k ≤ 3) × (fullLines ≤ length (now a)) × (fullLines ≤ length (now b)) ⌝ }
     ensures { λ r. ⌜ Best g target (g ^ (2 * k)) (now (a .entry)) (now (b .entry)) r ⌝ }
 {
@@ -27,7 +27,7 @@ pub fn choose(g: usize, k: usize, target: usize, a: &[u64], b: &[u64]) -> Choice
 }
 
 // The best of the lines up to v, from the best of those before it. The last state of a line is the rest of its value by G.
-fn with_line(best: Choice, g: usize, target: usize, v: usize, a: &[u64], b: &[u64]) -> Choice
+fn with_line(best: Choice, g: usize, target: usize, v: usize, a: &[u16], b: &[u16]) -> Choice
     requires { ⌜ (1 ≤ g) × (v < length (now a)) × (v < length (now b)) ⌝ ∗ ⌜ Best g target v (now a) (now b) best ⌝ }
     ensures { λ r. ⌜ Best g target (v + 1) (now (a .entry)) (now (b .entry)) r ⌝ }
 {

@@ -33,7 +33,7 @@ pub enum Judgement {
 // A full line, by its value, and the least steps of both threads along it, capped; or UNREACHED where there is no line.
 pub struct Choice {
     pub line: usize,
-    pub steps: u64,
+    pub steps: u16,
 }
 
 // Whether runs of at most K rounds reach the target. Fills the line store, and writes a shortest schedule where it is Found.
@@ -61,7 +61,7 @@ fn verdict(m: Model, lines: &mut [u8], schedule: &mut [u8]) -> Judgement
     ensures table { λ r. ⌜ LeavesLines m r (now (lines .entry)) (now (lines .exit)) ⌝ }
     ensures witness { λ r. ⌜ LeavesSchedule m r (now (schedule .entry)) (now (schedule .exit)) ⌝ }
 {
-    let mut table = [0u64; SIZE];
+    let mut table = [0u16; SIZE];
     let first = m.a;
     let top_a = first.top;
     if names(top_a) {
@@ -86,7 +86,7 @@ fn names(top: Top) -> bool
 }
 
 // The verdict where no top is named: the costs to any top serve for the line table and for the target.
-fn to_any(m: Model, table: &mut [u64], lines: &mut [u8], schedule: &mut [u8]) -> Judgement
+fn to_any(m: Model, table: &mut [u16], lines: &mut [u8], schedule: &mut [u8]) -> Judgement
     requires { ⌜ Fits m ⌝ ∗ ⌜ length (now table) ≡ size ⌝ ∗ ⌜ bytesFor (m .g) (m .k) ≤ length (now lines) ⌝
         ∗ ⌜ mostBytes ≤ length (now schedule) ⌝
         ∗ ⌜ (m .a .top ≡ Any) × (m .b .top ≡ Any) ⌝ }
@@ -94,25 +94,25 @@ fn to_any(m: Model, table: &mut [u64], lines: &mut [u8], schedule: &mut [u8]) ->
     ensures table { λ r. ⌜ LeavesLines m r (now (lines .entry)) (now (lines .exit)) ⌝ }
     ensures witness { λ r. ⌜ LeavesSchedule m r (now (schedule .entry)) (now (schedule .exit)) ⌝ }
 {
-    let mut a = [0u64; LINES];
-    let mut b = [0u64; LINES];
+    let mut a = [0u16; LINES];
+    let mut b = [0u16; LINES];
     costs::lines(m, table, &mut a, &mut b);
     draw::draw(m, lines, &a, &b);
     search(m, &a, &b, schedule)
 }
 
 // The verdict where a top may be named: the costs to any top give the line table, those to the tops that are named the verdict.
-fn to_tops(m: Model, table: &mut [u64], lines: &mut [u8], schedule: &mut [u8]) -> Judgement
+fn to_tops(m: Model, table: &mut [u16], lines: &mut [u8], schedule: &mut [u8]) -> Judgement
     requires { ⌜ Fits m ⌝ ∗ ⌜ length (now table) ≡ size ⌝ ∗ ⌜ bytesFor (m .g) (m .k) ≤ length (now lines) ⌝
         ∗ ⌜ mostBytes ≤ length (now schedule) ⌝ }
     ensures answer { λ r. ⌜ Answers m 0 r ⌝ }
     ensures table { λ r. ⌜ LeavesLines m r (now (lines .entry)) (now (lines .exit)) ⌝ }
     ensures witness { λ r. ⌜ LeavesSchedule m r (now (schedule .entry)) (now (schedule .exit)) ⌝ }
 {
-    let mut a = [0u64; LINES];
-    let mut b = [0u64; LINES];
-    let mut x = [0u64; LINES];
-    let mut y = [0u64; LINES];
+    let mut a = [0u16; LINES];
+    let mut b = [0u16; LINES];
+    let mut x = [0u16; LINES];
+    let mut y = [0u16; LINES];
     costs::both(m, table, &mut a, &mut b, &mut x, &mut y);
     draw::draw(m, lines, &a, &b);
     with_first(m, &a, &b, &x, &y, schedule)
@@ -121,10 +121,10 @@ fn to_tops(m: Model, table: &mut [u64], lines: &mut [u8], schedule: &mut [u8]) -
 // The verdict, where A's costs are in x if it names a top.
 fn with_first(
     m: Model,
-    a: &[u64],
-    b: &[u64],
-    x: &[u64],
-    y: &[u64],
+    a: &[u16],
+    b: &[u16],
+    x: &[u16],
+    y: &[u16],
     schedule: &mut [u8],
 ) -> Judgement
     requires { ⌜ Fits m ⌝ ∗ ⌜
@@ -143,7 +143,7 @@ fn with_first(
 }
 
 // The verdict, where B's costs are in y if it names a top.
-fn with_second(m: Model, a: &[u64], b: &[u64], y: &[u64], schedule: &mut [u8]) -> Judgement
+fn with_second(m: Model, a: &[u16], b: &[u16], y: &[u16], schedule: &mut [u8]) -> Judgement
     requires { ⌜ Fits m ⌝ ∗ ⌜
         (fullLines ≤ length (now a)) × (fullLines ≤ length (now b)) × (fullLines ≤ length (now y)) × (mostBytes ≤ length (now schedule))
         ⌝ ∗ ⌜ BothCosts m (m .a .top) Any (now a) (now b) ⌝ ∗ ⌜ SecondNamed m (now y) ⌝ }
@@ -159,7 +159,7 @@ fn with_second(m: Model, a: &[u64], b: &[u64], y: &[u64], schedule: &mut [u8]) -
 }
 
 // The verdict from both threads' costs of all full lines to the target.
-fn search(m: Model, a: &[u64], b: &[u64], schedule: &mut [u8]) -> Judgement
+fn search(m: Model, a: &[u16], b: &[u16], schedule: &mut [u8]) -> Judgement
     requires { ⌜ Fits m ⌝ ∗ ⌜ (fullLines ≤ length (now a)) × (fullLines ≤ length (now b)) × (mostBytes ≤ length (now schedule)) ⌝
         ∗ ⌜ TargetCosts m (now a) (now b) ⌝ }
     ensures answer { λ r. ⌜ Answers m 0 r ⌝ }
@@ -170,7 +170,7 @@ fn search(m: Model, a: &[u64], b: &[u64], schedule: &mut [u8]) -> Judgement
 }
 
 // The verdict that the best line stands for, and its schedule where it is short enough.
-fn told(m: Model, best: Choice, a: &[u64], b: &[u64], schedule: &mut [u8]) -> Judgement
+fn told(m: Model, best: Choice, a: &[u16], b: &[u16], schedule: &mut [u8]) -> Judgement
     requires { ⌜ Fits m ⌝ ∗ ⌜ (fullLines ≤ length (now a)) × (fullLines ≤ length (now b)) × (mostBytes ≤ length (now schedule)) ⌝
         ∗ ⌜ TargetCosts m (now a) (now b) ⌝ ∗ ⌜ Best (m .g) (m .target .0) (m .g ^ (2 * m .k)) (now a) (now b) best ⌝ }
     ensures answer { λ r. ⌜ Answers m 0 r ⌝ }
@@ -184,5 +184,6 @@ fn told(m: Model, best: Choice, a: &[u64], b: &[u64], schedule: &mut [u8]) -> Ju
     }
     let line = best.line;
     witness::write(m, line, a[line], b[line], schedule);
-    Judgement::Found(best.steps)
+    let steps = best.steps as u64;
+    Judgement::Found(steps)
 }

@@ -33,9 +33,9 @@ fn mark(m: Model, store: &mut [u8])
     requires { ⌜ Fits m ⌝ ∗ ⌜ bytesFor (m .g) (m .k) ≤ length (now store) ⌝ }
     ensures { λ _. ⌜ LineTable m (now (store .entry)) (now (store .exit)) ⌝ }
 {
-    let mut table = [0u64; SIZE];
-    let mut a = [0u64; LINES];
-    let mut b = [0u64; LINES];
+    let mut table = [0u16; SIZE];
+    let mut a = [0u16; LINES];
+    let mut b = [0u16; LINES];
     costs::lines(m, &mut table, &mut a, &mut b);
     draw::draw(m, store, &a, &b);
 }

@@ -1,4 +1,5 @@
 pub mod Best
+pub mod Capped
 pub mod CellNumbers
 pub mod Complete
 pub mod Exacts

@@ -11,7 +11,7 @@ use Rattle.model.specs.declared.Top.the-variants.{Any, Named}
 use Rattle.model.specs.Rules.{ruleAt}
 use Rattle.model.specs.Fits.{RightFits, TopFits, ThreadFits}
 use Rattle.summary.specs.Edges.{Edge, Row, Below}
-use Rattle.summary.specs.Cells.{plain, lane, first, second, size, destsOf, TopEdges, plainBy, laneBy, crossBy}
+use Rattle.summary.specs.Cells.{plain, lane, first, part, second, size, destsOf, TopEdges, plainBy, laneBy, crossBy}
 use Rattle.summary.specs.Cells.{PlainRule, LaneRule, CrossRule, FirstEnds, SecondEnds, Rules, Plain, First}
 use Rattle.summary.proofs.Joins.{dests-range}
 
@@ -37,7 +37,7 @@ module _ (ds n g γ h : ℕ) (most : ds ≤ 12) (few : n ≤ 4) (gs : g < n) (γ
   plain-right (Push a b) f e (inr r) = row-span _ _ _ _ _ (omega arith) e r
 
   lane-right : (base : ℕ) (x : Right) → RightFits x → (e : Edge) → laneBy ds base n g γ h x e
-      → Span base (base + 13056) (base + 13056) e
+      → Span base (base + part) (base + part) e
   lane-right base Remove f e r = absurd r
   lane-right base (Swap a) f e r = row-span _ _ _ _ _ (omega arith) e r
   lane-right base (Push a b) f e (inl r) = go (r .i) (r .inside) (r .at)
@@ -45,7 +45,7 @@ module _ (ds n g γ h : ℕ) (most : ds ≤ 12) (few : n ≤ 4) (gs : g < n) (γ
       go : (q : ℕ) → q < n
           → Row 1 (lane base g γ 0) (plain h (a .0) q) (lane base q (b .0) 0) (ds * 16) e ⊎
           Below ds (λ i. Row 1 (lane base g γ i) (plain q (b .0) i) (lane base h (a .0) q) 16) e
-          → Span base (base + 13056) (base + 13056) e
+          → Span base (base + part) (base + part) e
       go q l (inl s) = row-span _ _ _ _ _ (omega arith) e s
       go q l (inr s) =
           let d = s .inside in row-span _ _ _ _ _ (omega arith) e (s .at)
@@ -64,7 +64,7 @@ module _ (th : Thread) (ds n : ℕ) (most : ds ≤ 12) (few : n ≤ 4) (fits : T
       let f = fits .rules (r .i) (r .inside) in
       plain-right ds n _ _ _ most few (f .state) (f .top) (f .next) (ruleAt th (r .i) .right) (f .symbols) e (r .at)
 
-  pub lane-span : (base : ℕ) (e : Edge) → Rules th (LaneRule ds base n) e → Span base (base + 13056) (base + 13056) e
+  pub lane-span : (base : ℕ) (e : Edge) → Rules th (LaneRule ds base n) e → Span base (base + part) (base + part) e
   lane-span base e r =
       let f = fits .rules (r .i) (r .inside) in
       lane-right ds n _ _ _ most few (f .state) (f .top) (f .next) base (ruleAt th (r .i) .right) (f .symbols) e (r .at)

@@ -43,6 +43,10 @@ laneOf o i = o * 4 + i
 abbrev pub first : ℕ
 first = 816
 
+-- How many cells a part with turn ends has.
+abbrev pub part : ℕ
+part = 13056
+
 -- Where the part with two starts.
 abbrev pub second : ℕ
 second = 13872

@@ -6,7 +6,7 @@ use Prim.Native.Nat.{ℕ, _+_, _≤_, _<_, min}
 use lib.Dec.{leb, ltb}
 use lib.ListN.{length, getD}
 use Rattle.model.specs.Bits.{oneIf}
-use Rattle.summary.specs.Table.{cap, capped}
+use Rattle.summary.specs.Table.{cap, unreached, capped}
 
 -- An edge: the cell `to` is at most w more than cells a and b together.
 pub record Edge : Type 0 where
@@ -18,6 +18,10 @@ pub record Edge : Type 0 where
 -- What a cell of a table holds.
 abbrev pub cell : List ℕ → ℕ → ℕ
 cell table at = getD table at 0
+
+-- The cells below a bound hold counts: capped numbers, or what stands for none.
+pub record Counts (bound : ℕ) (table : List ℕ) : Type 0 where
+  pub most : (at : ℕ) → at < bound → cell table at ≤ unreached
 
 -- A count after an edge: what its parts offer, capped, where both are reached and that is less.
 unfoldable pub bestOf : ℕ → ℕ → ℕ → ℕ → ℕ

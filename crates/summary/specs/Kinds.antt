@@ -1,9 +1,9 @@
 -- The kinds of edges that a pass over all rules relaxes.
-use Prim.Native.Nat.{ℕ, _≤_, _<_}
+use Prim.Native.Nat.{ℕ, _+_, _≤_, _<_}
 use Rattle.model.specs.declared.Rule.{Rule}
 use Rattle.summary.specs.declared.Kind.{Kind}
 use Rattle.summary.specs.declared.Kind.the-variants.{Plain, Lanes, Cross}
-use Rattle.summary.specs.Cells.{second, PlainRule, LaneRule, CrossRule}
+use Rattle.summary.specs.Cells.{first, part, second, size, PlainRule, LaneRule, CrossRule}
 use Rattle.summary.specs.Edges.{Edge}
 
 -- The edges of a rule that are of a kind, with ds destinations and g states.
@@ -17,3 +17,9 @@ abbrev pub KindFits : Kind → Type 0
 KindFits Plain = Unit {0}
 KindFits (Lanes base) = base ≤ second
 KindFits (Cross l) = l < 16
+
+-- Where the cells end that edges of a kind join.
+abbrev pub endOf : Kind → ℕ
+endOf Plain = first
+endOf (Lanes base) = base + part
+endOf (Cross l) = size

@@ -34,7 +34,7 @@ pub fn lane_cell(base: usize, q: usize, top: usize, d: usize) -> usize
 }
 
 // Makes the cells of a part blank.
-pub fn reset(table: &mut [u64], from: usize, to: usize)
+pub fn reset(table: &mut [u16], from: usize, to: usize)
     requires { ⌜ (from ≤ to) × (to ≤ length (now table)) ⌝ }
     ensures { λ r. ⌜ Reset from to (now (table .entry)) (now (table .exit)) ⌝ }
 {
@@ -46,7 +46,7 @@ pub fn reset(table: &mut [u64], from: usize, to: usize)
 }
 
 // What a cell holds before a search: to stay in place takes no step.
-fn blank_at(at: usize) -> u64
+fn blank_at(at: usize) -> u16
     ensures { λ r. ⌜ r ≡ blank at ⌝ }
 {
     if FIRST <= at {

@@ -2,7 +2,7 @@
 use crate::cells::FIRST;
 use crate::cells::SECOND;
 use crate::cells::lane_cell;
-use crate::edges::usual_row;
+use crate::edges::long_row;
 use model::Right;
 use model::Rule;
 ghost use mathlib.Core.Path.{_≡_};
@@ -10,11 +10,11 @@ ghost use Prim.Native.Nat.{_+_, _*_, _≤_, _<_};
 ghost use lib.ListN.{length};
 ghost use Rattle.model.specs.Fits.{RuleFits};
 ghost use Rattle.summary.specs.Cells.{lane, size, first, second, CrossRule};
-ghost use Rattle.summary.specs.Edges.{Relaxed, Row, Below};
+ghost use Rattle.summary.specs.Edges.{Counts, Relaxed, Row, Below};
 
 // The edges of a rule whose first turn end is the one of lane l. How many cells have fallen.
-pub fn cross_rule(table: &mut [u64], l: usize, dests: usize, g: usize, r: Rule) -> u64
-    requires { ⌜ (length (now table) ≡ size) × (l < 16) × (dests ≤ 12) × (g ≤ 4) × RuleFits g r ⌝ }
+pub fn cross_rule(table: &mut [u16], l: usize, dests: usize, g: usize, r: Rule) -> u64
+    requires { ⌜ (length (now table) ≡ size) × (l < 16) × (dests ≤ 12) × (g ≤ 4) × RuleFits g r ⌝ ∗ ⌜ Counts size (now table) ⌝ }
     ensures { λ x. ⌜ Relaxed (CrossRule dests l g r) (now (table .entry)) (now (table .exit)) x × (x ≤ 768) ⌝ }
 {
     let p = r.before.0 as usize;
@@ -40,7 +40,7 @@ pub fn cross_rule(table: &mut [u64], l: usize, dests: usize, g: usize, r: Rule) 
 
 // The edges of a push, at each state q where the first symbol goes.
 fn cross_pushes(
-    table: &mut [u64],
+    table: &mut [u16],
     l: usize,
     dests: usize,
     g: usize,
@@ -52,7 +52,7 @@ fn cross_pushes(
 ) -> u64
     requires { ⌜
         (length (now table) ≡ size) × (l < 16) × (dests ≤ 12) × (g ≤ 4) × (p < 4) × (top < 17) × (h < 4) × (a < 17) × (b < 17)
-        ⌝ }
+        ⌝ ∗ ⌜ Counts size (now table) ⌝ }
     ensures { λ x. ⌜
         Relaxed (Below g (λ q. Row 1 (lane second p top 0) (lane first h a q + l) (lane first q b 0) (dests * 16)))
         (now (table .entry)) (now (table .exit)) x
@@ -62,14 +62,13 @@ fn cross_pushes(
     let mut changes = 0;
     let mut q = 0;
     while q < g {
-        changes += usual_row(
+        changes += long_row(
             table,
             1,
             lane_cell(SECOND, p, top, 0),
             lane_cell(FIRST, h, a, q) + l,
             lane_cell(FIRST, q, b, 0),
             dests * 16,
-            128,
         );
         q += 1;
     }

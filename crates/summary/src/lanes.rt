@@ -2,21 +2,22 @@
 use crate::cells::REST;
 use crate::cells::lane_cell;
 use crate::cells::plain_cell;
+use crate::edges::long_row;
 use crate::edges::row;
-use crate::edges::usual_row;
 use model::Right;
 use model::Rule;
 ghost use mathlib.Core.Logic.{_⊎_};
 ghost use mathlib.Core.Path.{_≡_};
-ghost use Prim.Native.Nat.{_*_, _≤_, _<_};
+ghost use Prim.Native.Nat.{_+_, _*_, _≤_, _<_};
 ghost use lib.ListN.{length};
 ghost use Rattle.model.specs.Fits.{RuleFits};
-ghost use Rattle.summary.specs.Cells.{plain, lane, size, second, LaneRule};
-ghost use Rattle.summary.specs.Edges.{Relaxed, Row, Below};
+ghost use Rattle.summary.specs.Cells.{plain, lane, size, part, second, LaneRule};
+ghost use Rattle.summary.specs.Edges.{Counts, Relaxed, Row, Below};
 
 // The edges of a rule in the part that starts at `base`. How many cells have fallen.
-pub fn lane_rule(table: &mut [u64], base: usize, dests: usize, g: usize, r: Rule) -> u64
-    requires { ⌜ (length (now table) ≡ size) × (base ≤ second) × (8 ≤ dests) × (dests ≤ 12) × (g ≤ 4) × RuleFits g r ⌝ }
+pub fn lane_rule(table: &mut [u16], base: usize, dests: usize, g: usize, r: Rule) -> u64
+    requires { ⌜ (length (now table) ≡ size) × (base ≤ second) × (8 ≤ dests) × (dests ≤ 12) × (g ≤ 4) × RuleFits g r ⌝
+        ∗ ⌜ Counts (base + part) (now table) ⌝ }
     ensures { λ x. ⌜ Relaxed (LaneRule dests base g r) (now (table .entry)) (now (table .exit)) x × (x ≤ 1664) ⌝ }
 {
     let p = r.before.0 as usize;
@@ -25,26 +26,24 @@ pub fn lane_rule(table: &mut [u64], base: usize, dests: usize, g: usize, r: Rule
     let right = r.right;
     match right {
         Right::Remove => 0,
-        Right::Swap(a) => usual_row(
+        Right::Swap(a) => long_row(
             table,
             1,
             lane_cell(base, p, top, 0),
             REST,
             lane_cell(base, h, a.0 as usize, 0),
             dests * 16,
-            128,
         ),
         Right::Push(a, b) => {
             let below = lane_pushes(table, base, dests, g, p, top, h, a.0 as usize, b.0 as usize);
             below
-                + usual_row(
+                + long_row(
                     table,
                     1,
                     lane_cell(base, p, top, 4),
                     REST,
                     lane_cell(base, h, a.0 as usize, 4),
                     (dests - 4) * 16,
-                    64,
                 )
         }
     }
@@ -53,7 +52,7 @@ pub fn lane_rule(table: &mut [u64], base: usize, dests: usize, g: usize, r: Rule
 // The edges of a push whose first symbol goes, at each state q: the turn end is inside what comes of the second symbol,
 // or inside what comes of the first.
 fn lane_pushes(
-    table: &mut [u64],
+    table: &mut [u16],
     base: usize,
     dests: usize,
     g: usize,
@@ -65,7 +64,7 @@ fn lane_pushes(
 ) -> u64
     requires { ⌜
         (length (now table) ≡ size) × (base ≤ second) × (dests ≤ 12) × (g ≤ 4) × (p < 4) × (top < 17) × (h < 4) × (a < 17) × (b < 17)
-        ⌝ }
+        ⌝ ∗ ⌜ Counts (base + part) (now table) ⌝ }
     ensures { λ x. ⌜
         Relaxed (Below g (λ q e. Row 1 (lane base p top 0) (plain h a q) (lane base q b 0) (dests * 16) e
         ⊎ Below dests (λ d. Row 1 (lane base p top d) (plain q b d) (lane base h a q) 16) e))
@@ -76,14 +75,13 @@ fn lane_pushes(
     let mut changes = 0;
     let mut q = 0;
     while q < g {
-        let after = usual_row(
+        let after = long_row(
             table,
             1,
             lane_cell(base, p, top, 0),
             plain_cell(h, a, q),
             lane_cell(base, q, b, 0),
             dests * 16,
-            128,
         );
         let before = lane_pops(table, base, dests, p, top, q, b, lane_cell(base, h, a, q));
         changes += after + before;
@@ -94,7 +92,7 @@ fn lane_pushes(
 
 // The same for one state, with the turn end inside what comes of the first symbol, whose lanes start at cell `from`.
 fn lane_pops(
-    table: &mut [u64],
+    table: &mut [u16],
     base: usize,
     dests: usize,
     p: usize,
@@ -104,8 +102,8 @@ fn lane_pops(
     from: usize,
 ) -> u64
     requires { ⌜
-        (length (now table) ≡ size) × (base ≤ second) × (dests ≤ 12) × (p < 4) × (top < 17) × (q < 4) × (b < 17) × (from < 26912)
-        ⌝ }
+        (length (now table) ≡ size) × (base ≤ second) × (dests ≤ 12) × (p < 4) × (top < 17) × (q < 4) × (b < 17) × (from + 16 ≤ base + part)
+        ⌝ ∗ ⌜ Counts (base + part) (now table) ⌝ }
     ensures { λ x. ⌜
         Relaxed (Below dests (λ d. Row 1 (lane base p top d) (plain q b d) from 16)) (now (table .entry)) (now (table .exit)) x
         × (x ≤ 16 * dests)

@@ -9,10 +9,10 @@ mod search;
 pub mod turns;
 
 // Stands for a count of so many steps or more: runs exist, and each has as many.
-pub const CAP: u64 = 4096;
+pub const CAP: u16 = 4096;
 
 // Stands for no count: there is no run.
-pub const UNREACHED: u64 = 4097;
+pub const UNREACHED: u16 = 4097;
 
 // Which edges of a rule a pass relaxes: those within one turn; those with turn ends inside one of its parts, in the part of the
 // table that starts at a cell; or those with one turn end inside each of its parts, the first of them in a lane.

@@ -9,12 +9,12 @@ ghost use mathlib.Core.Path.{_≡_};
 ghost use Prim.Native.Nat.{_*_, _≤_, _<_};
 ghost use lib.ListN.{length};
 ghost use Rattle.model.specs.Fits.{RuleFits};
-ghost use Rattle.summary.specs.Cells.{plain, size, PlainRule};
-ghost use Rattle.summary.specs.Edges.{Relaxed, Row, Below};
+ghost use Rattle.summary.specs.Cells.{plain, first, size, PlainRule};
+ghost use Rattle.summary.specs.Edges.{Counts, Relaxed, Row, Below};
 
 // The edges of a rule. How many cells have fallen.
-pub fn plain_rule(table: &mut [u64], dests: usize, g: usize, r: Rule) -> u64
-    requires { ⌜ (length (now table) ≡ size) × (8 ≤ dests) × (dests ≤ 12) × (g ≤ 4) × RuleFits g r ⌝ }
+pub fn plain_rule(table: &mut [u16], dests: usize, g: usize, r: Rule) -> u64
+    requires { ⌜ (length (now table) ≡ size) × (8 ≤ dests) × (dests ≤ 12) × (g ≤ 4) × RuleFits g r ⌝ ∗ ⌜ Counts first (now table) ⌝ }
     ensures { λ x. ⌜ Relaxed (PlainRule dests g r) (now (table .entry)) (now (table .exit)) x × (x ≤ 60) ⌝ }
 {
     let p = r.before.0 as usize;
@@ -50,7 +50,7 @@ pub fn plain_rule(table: &mut [u64], dests: usize, g: usize, r: Rule) -> u64
 
 // The edges of a push whose first symbol goes: at each state q.
 fn plain_pushes(
-    table: &mut [u64],
+    table: &mut [u16],
     dests: usize,
     g: usize,
     p: usize,
@@ -61,7 +61,7 @@ fn plain_pushes(
 ) -> u64
     requires { ⌜
         (length (now table) ≡ size) × (dests ≤ 12) × (g ≤ 4) × (p < 4) × (top < 17) × (h < 4) × (a < 17) × (b < 17)
-        ⌝ }
+        ⌝ ∗ ⌜ Counts first (now table) ⌝ }
     ensures { λ x. ⌜
         Relaxed (Below g (λ q. Row 1 (plain p top 0) (plain h a q) (plain q b 0) dests)) (now (table .entry)) (now (table .exit)) x
         × (x ≤ 12 * g)

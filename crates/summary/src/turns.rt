@@ -20,7 +20,7 @@ ghost use Rattle.summary.specs.Cells.{size, first, second, Plain, First,
 ghost use Rattle.summary.specs.Control.{TurnEnd, Inside, Summed};
 
 // Solves the stretches within one turn, whatever the table held: each entry is then exact.
-pub fn close_plain(table: &mut [u64], g: usize, top: Top, th: Thread)
+pub fn close_plain(table: &mut [u16], g: usize, top: Top, th: Thread)
     requires { ⌜ (length (now table) ≡ size) × (g ≤ 4) × TopFits top × ThreadFits g th ⌝ }
     ensures solved { λ r. ⌜ Solved (Plain th top g) first (now (table .exit)) ⌝ }
     ensures exact { λ r. ⌜ ((ends : ℕ → TurnEnd) → Summed th top g 0 ends (now (table .exit))) ⌝ }
@@ -32,7 +32,7 @@ pub fn close_plain(table: &mut [u64], g: usize, top: Top, th: Thread)
 }
 
 // One turn end inside, from a table whose first part is solved: each entry is then exact, along any line.
-pub fn close_first(table: &mut [u64], g: usize, top: Top, th: Thread)
+pub fn close_first(table: &mut [u16], g: usize, top: Top, th: Thread)
     requires { ⌜
         (length (now table) ≡ size) × (g ≤ 4) × TopFits top × ThreadFits g th × Solved (Plain th top g) first (now table)
         ⌝ }
@@ -47,7 +47,7 @@ pub fn close_first(table: &mut [u64], g: usize, top: Top, th: Thread)
 
 // Two turn ends inside of which the first is (o, i), from a table whose first two parts are solved, and which stay so: each
 // entry is then exact, along any line with that first turn end.
-pub fn close_second(table: &mut [u64], g: usize, o: usize, i: usize, top: Top, th: Thread)
+pub fn close_second(table: &mut [u16], g: usize, o: usize, i: usize, top: Top, th: Thread)
     requires { ⌜
         (length (now table) ≡ size) × (g ≤ 4) × (o < 4) × (i < 4) × TopFits top × ThreadFits g th
         × Solved (First th top g) second (now table)

@@ -17,13 +17,13 @@ ghost use Rattle.model.specs.Fits.{ThreadFits};
 ghost use Rattle.summary.specs.Cells.{size, second, First, Solved};
 
 // The count at a cell.
-fn count_at(t: &[u64], k: usize) -> u64 {
+fn count_at(t: &[u16], k: usize) -> u16 {
     if k < t.len() { t[k] } else { 0 }
 }
 
 // The steps after which symbol s is gone, where each symbol but 0 becomes two of the one below it: 2^(s+1) − 1, capped.
-fn doubled(s: usize) -> u64 {
-    let mut steps: u64 = 1;
+fn doubled(s: usize) -> u16 {
+    let mut steps: u16 = 1;
     let mut i = 0;
     while i < s {
         if 2048 <= steps {
@@ -36,7 +36,7 @@ fn doubled(s: usize) -> u64 {
 }
 
 // Symbols 0 to 12 of the doubling thread, and 13, which no rule takes.
-fn compared(t: &[u64]) -> Tally {
+fn compared(t: &[u16]) -> Tally {
     let mut tally = Tally::new();
     let mut s = 0;
     while s < 13 {
@@ -46,21 +46,26 @@ fn compared(t: &[u64]) -> Tally {
     tally.counted(count_at(t, 156) == UNREACHED)
 }
 
+// A count, for a sum.
+fn wide(count: u16) -> u64 {
+    count as u64
+}
+
 // The sum of some cells.
-fn total(t: &[u64], from: usize, to: usize) -> u64
+fn total(t: &[u16], from: usize, to: usize) -> u64
     requires { ⌜ to ≤ length (now t) ⌝ }
 {
     let mut sum = 0;
     let mut i = from;
     while i < to {
-        sum = std::num::wrapping_add_u64(sum, t[i]);
+        sum = std::num::wrapping_add_u64(sum, wide(t[i]));
         i += 1;
     }
     sum
 }
 
 // The sum of the last part of the table over all first turn ends.
-fn slices(t: &mut [u64], n: usize, th: Thread) -> u64
+fn slices(t: &mut [u16], n: usize, th: Thread) -> u64
     requires { ⌜ (length (now t) ≡ size) × (n ≤ 4) × ThreadFits n th × Solved (First th Any n) second (now t) ⌝ }
 {
     let mut sum = 0;
@@ -74,7 +79,7 @@ fn slices(t: &mut [u64], n: usize, th: Thread) -> u64
 }
 
 // The sum of all tables of a thread.
-fn whole(t: &mut [u64], n: usize, th: Thread) -> u64
+fn whole(t: &mut [u16], n: usize, th: Thread) -> u64
     requires { ⌜ (length (now t) ≡ size) × (n ≤ 4) × ThreadFits n th ⌝ }
 {
     summary::turns::close_plain(t, n, Top::Any, th);
@@ -84,7 +89,7 @@ fn whole(t: &mut [u64], n: usize, th: Thread) -> u64
 }
 
 // The doubling thread, with one state: symbol 0 is removed, and symbols 1 to 12 each become two of the one below them.
-fn doubling(t: &mut [u64]) -> Tally
+fn doubling(t: &mut [u16]) -> Tally
     requires { ⌜ length (now t) ≡ size ⌝ }
 {
     let reading = record::read(
@@ -104,7 +109,7 @@ fn doubling(t: &mut [u64]) -> Tally
 }
 
 // The thread of a record.
-fn dense(t: &mut [u64], bytes: &[u8]) -> u64
+fn dense(t: &mut [u16], bytes: &[u8]) -> u64
     requires { ⌜ length (now t) ≡ size ⌝ }
 {
     let reading = record::read(bytes);
@@ -117,7 +122,7 @@ fn dense(t: &mut [u64], bytes: &[u8]) -> u64
 }
 
 // The thread of the file, and the sum of its cells.
-fn file(t: &mut [u64], store: &mut [u8])
+fn file(t: &mut [u16], store: &mut [u8])
     requires { ⌜ length (now t) ≡ size ⌝ }
 {
     let n = vectors::load(b"dense.bin", store);
@@ -127,7 +132,7 @@ fn file(t: &mut [u64], store: &mut [u8])
 }
 
 fn main() {
-    let mut t = [0u64; SIZE];
+    let mut t = [0u16; SIZE];
     doubling(&mut t).report(b"doubling thread");
     let mut store = [0u8; 700];
     file(&mut t, &mut store);

@@ -22,7 +22,7 @@ use model::ThreadId;
 
 // Writes a shortest schedule along the full line whose value is v to the tops that the model names, where x and y are the least steps
 // of A and of B along it.
-pub fn write(m: Model, v: usize, x: u64, y: u64, schedule: &mut [u8])
+pub fn write(m: Model, v: usize, x: u16, y: u16, schedule: &mut [u8])
     requires { ⌜ Fits m ⌝ ∗ ⌜ Chosen m v x y ⌝ ∗ ⌜ mostBytes ≤ length (now schedule) ⌝ }
     ensures { λ _. ⌜
         Stored (EndsUnder m (digits (m .g) (2 * m .k) v)) (x + y) 0

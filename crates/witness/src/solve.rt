@@ -12,7 +12,7 @@ ghost use Rattle.summary.specs.Cells.{size};
 ghost use Rattle.summary.specs.Control.{TurnEnd, Inside, Summed};
 
 // Solves the table of a thread for a top and n turn ends, of which the first is (o, i).
-pub fn solve(table: &mut [u64], g: usize, n: usize, o: usize, i: usize, top: Top, th: Thread)
+pub fn solve(table: &mut [u16], g: usize, n: usize, o: usize, i: usize, top: Top, th: Thread)
     requires { ⌜
         (length (now table) ≡ size) × (g ≤ 4) × (n ≤ 2) × (o < 4) × (i < 4) × TopFits top × ThreadFits g th
         ⌝ }

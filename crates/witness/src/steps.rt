@@ -47,7 +47,7 @@ pub fn steps(
         Stored (RunAlong th top id n start (digits g (2 * suc n) v)) count 0 (now (out .entry)) (now (out .exit))
         ⌝ }
 {
-    let mut table = [0u64; SIZE];
+    let mut table = [0u16; SIZE];
     let mut plan = [0u8; PLAN_SIZE];
     prepare(&mut table, &mut plan, th, top, g, n, id, v);
     let goal = start_goal(top, g, n, id, start, v, th.first.0 as usize);
@@ -56,7 +56,7 @@ pub fn steps(
 
 // The plan of a thread along a line, and the table solved for the line's turn ends and a top.
 fn prepare(
-    table: &mut [u64],
+    table: &mut [u16],
     plan: &mut [u8],
     th: Thread,
     top: Top,

@@ -20,7 +20,7 @@ ghost use Rattle.witness.specs.Goals.{from, entryOf, Ready, Splits, Ends
 ghost use Rattle.witness.specs.Plan.{Setting};
 
 // Writes the steps of a stretch from place `at` on: just so many as the table says, which is `count`.
-pub fn stretch(table: &[u64], plan: &[u8], goal: Goal, count: usize, out: &mut [u8], at: usize)
+pub fn stretch(table: &[u16], plan: &[u8], goal: Goal, count: usize, out: &mut [u8], at: usize)
     requires { ⌜ Ready (now table) (now plan) goal ⌝ ∗ ⌜ (count ≤ mostSteps) × (at + 2 * count ≤ length (now out)) ⌝ }
     ensures { λ _. ⌜
         ((w : Setting (now (table .entry)) (now (plan .entry))) (d : End Control) → EndsAt w goal d
@@ -49,7 +49,7 @@ pub fn stretch(table: &[u64], plan: &[u8], goal: Goal, count: usize, out: &mut [
 
 // Writes the steps of a pair, the goal being its first symbol's and `below` its second.
 pub fn pair(
-    table: &[u64],
+    table: &[u16],
     plan: &[u8],
     goal: Goal,
     below: usize,

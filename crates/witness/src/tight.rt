@@ -16,7 +16,7 @@ ghost use Rattle.witness.specs.Goals.{entryOf, Ready, Decides, Sums, Spl
 ghost use Rattle.witness.specs.Plan.{rulesIn, ruleIn, endsIn, InRange};
 
 // The first rule that is a tight first step; the number of rules where none is.
-pub fn first_rule(table: &[u64], plan: &[u8], goal: Goal, count: usize) -> usize
+pub fn first_rule(table: &[u16], plan: &[u8], goal: Goal, count: usize) -> usize
     requires { ⌜ Ready (now table) (now plan) goal ⌝ ∗ ⌜ (0 < count) × (count ≤ mostSteps) ⌝ }
     ensures tight { λ r. ⌜
         (r < rulesIn (now (plan .entry))
@@ -40,7 +40,7 @@ pub fn first_rule(table: &[u64], plan: &[u8], goal: Goal, count: usize) -> usize
 }
 
 // Whether a rule is a tight first step.
-fn suits(table: &[u64], plan: &[u8], goal: Goal, count: usize, rule: Rule) -> bool
+fn suits(table: &[u16], plan: &[u8], goal: Goal, count: usize, rule: Rule) -> bool
     requires { ⌜ Ready (now table) (now plan) goal ⌝ ∗ ⌜ (0 < count) × (count ≤ mostSteps) × RuleFits 4 rule ⌝ }
     ensures { λ r. ⌜ Decides r (Tight (now (table .entry)) (now (plan .entry)) goal count rule) ⌝ }
 {
@@ -56,7 +56,7 @@ fn suits(table: &[u64], plan: &[u8], goal: Goal, count: usize, rule: Rule) -> bo
 }
 
 // The same of a rule that applies, by its right side.
-fn suits_by(table: &[u64], plan: &[u8], goal: Goal, count: usize, h: usize, right: Right) -> bool
+fn suits_by(table: &[u16], plan: &[u8], goal: Goal, count: usize, h: usize, right: Right) -> bool
     requires { ⌜ Ready (now table) (now plan) goal ⌝ ∗ ⌜ (0 < count) × (count ≤ mostSteps) × (h < 4) × RightFits right ⌝ }
     ensures { λ r. ⌜ Decides r (TightBy (now (table .entry)) (now (plan .entry)) goal count h right) ⌝ }
 {
@@ -87,7 +87,7 @@ fn removes(goal: Goal, count: usize, h: usize) -> bool
 }
 
 // Whether a pair can be had in just so many steps.
-fn splits(table: &[u64], plan: &[u8], goal: Goal, below: usize, count: usize) -> bool
+fn splits(table: &[u16], plan: &[u8], goal: Goal, below: usize, count: usize) -> bool
     requires { ⌜ Ready (now table) (now plan) goal ⌝ ∗ ⌜ (below ≤ 16) × (count ≤ mostSteps) ⌝ }
     ensures { λ r. ⌜ Decides r (Splits (now (table .entry)) (now (plan .entry)) goal below count) ⌝ }
 {
@@ -98,7 +98,7 @@ fn splits(table: &[u64], plan: &[u8], goal: Goal, below: usize, count: usize) ->
 }
 
 // Whether a pair can be had without touching its second symbol.
-pub fn above(table: &[u64], plan: &[u8], goal: Goal, count: usize) -> bool
+pub fn above(table: &[u16], plan: &[u8], goal: Goal, count: usize) -> bool
     requires { ⌜ Ready (now table) (now plan) goal ⌝ }
     ensures { λ r. ⌜ Decides r ((4 ≤ goal .dest) × (entryOf (now (table .entry)) (now (plan .entry)) goal ≡ count)) ⌝ }
 {
@@ -109,7 +109,7 @@ pub fn above(table: &[u64], plan: &[u8], goal: Goal, count: usize) -> bool
 }
 
 // The first control at which the first symbol of a pair can be gone; 12 where there is none.
-pub fn middle(table: &[u64], plan: &[u8], goal: Goal, below: usize, count: usize) -> usize
+pub fn middle(table: &[u16], plan: &[u8], goal: Goal, below: usize, count: usize) -> usize
     requires { ⌜ Ready (now table) (now plan) goal ⌝ ∗ ⌜ (below ≤ 16) × (count ≤ mostSteps) ⌝ }
     ensures sums { λ r. ⌜ (r < 12 → Sums (now (table .entry)) (now (plan .entry)) goal below count r) ⌝ }
     ensures none { λ r. ⌜
@@ -127,7 +127,7 @@ pub fn middle(table: &[u64], plan: &[u8], goal: Goal, below: usize, count: usize
 }
 
 // Whether the first symbol of a pair can be gone at control y.
-fn sums(table: &[u64], plan: &[u8], goal: Goal, below: usize, count: usize, y: usize) -> bool
+fn sums(table: &[u16], plan: &[u8], goal: Goal, below: usize, count: usize, y: usize) -> bool
     requires { ⌜ Ready (now table) (now plan) goal ⌝ ∗ ⌜ (below ≤ 16) × (count ≤ mostSteps) × (y < 12) ⌝ }
     ensures { λ r. ⌜ Decides r (Sums (now (table .entry)) (now (plan .entry)) goal below count y) ⌝ }
 {
@@ -142,7 +142,7 @@ fn sums(table: &[u64], plan: &[u8], goal: Goal, below: usize, count: usize, y: u
 }
 
 // The count that the table has for a goal.
-pub fn entry_of(table: &[u64], plan: &[u8], goal: Goal) -> usize
+pub fn entry_of(table: &[u16], plan: &[u8], goal: Goal) -> usize
     requires { ⌜ Ready (now table) (now plan) goal ⌝ }
     ensures { λ r. ⌜ r ≡ entryOf (now (table .entry)) (now (plan .entry)) goal ⌝ }
 {

@@ -43,14 +43,17 @@ write-requires c κs =
     let pre = c .before .before .before .before .before .before .before .before .before .before .pre in
     (pre .0, (best-chosen (pre .0) (pre .1 .1 .1) (omega arith) (pre .1 .1 .0), pre .1 .0 .2))
 
+cast-steps : tie.Need-cast-steps
+cast-steps c = search needs
+
 same-length : tie.Need-same-length
 same-length c = search needs
 
 returns-3 : tie.Need-returns-3
 returns-3 c =
-    let pre = c .before .before .before .before .before .before .before .before .before .before .before .before .before .pre in (
+    let pre = c .before .before .before .before .before .before .before .before .before .before .before .before .before .before .pre in (
       (refl, judged-found (reaching (pre .0) (pre .1 .1 .0) (pre .1 .1 .1)) (omega arith)),
-      best-scheduled (pre .0) (pre .1 .1 .1) (omega arith) refl (c .before .before .write .ensures),
+      best-scheduled (pre .0) (pre .1 .1 .1) (omega arith) refl (c .before .before .before .write .ensures),
     )
 
 pub told-spec : {M : Type 1} → statement M
@@ -64,5 +67,6 @@ told-spec =
     mul-write-2
     shared-slice-read-write-2
     write-requires
+    cast-steps
     same-length
     returns-3)

@@ -1,10 +1,9 @@
--- `joined` meets its contract: a first part that is reached is the weight of the edge.
-use mathlib.Core.Path.{_∙_}
+-- `joined` meets its contract: its tests are the definition's.
+use native.Mathlib.Omega.{arith}
 use borrow.Author.Needs.{needs}
-use borrow.Author.Tests.{lt-leb}
-use Rattle.summary.specs.Table.{cap}
-use Rattle.costs.proofs.Entries.{best-first}
+use borrow.Author.Tests.{le-leb, lt-leb}
 use Rattle.summary.specs.Edges.{bestOf}
+use Rattle.summary.specs.Table.{cap}
 use Rattle.costs.proofs.line.joined.Statement.{statement}
 use Rattle.costs.proofs.line.joined.Tie as tie
 
@@ -12,11 +11,23 @@ returns : tie.Need-returns
 unfolding bestOf
 returns c = rw (lt-leb _ cap (c .if1 .taken))
 
-better-requires : tie.Need-better-requires
-better-requires c κs = search needs
-
 returns-2 : tie.Need-returns-2
-returns-2 c = c .better .ensures ∙ best-first _ _ _ (c .before .if1 .left)
+unfolding bestOf
+returns-2 c = rw (le-leb _ cap (c .before .if1 .left), lt-leb _ cap (c .if2 .taken))
+
+add-least : tie.Need-add-least
+add-least c = search needs
+
+least-requires : tie.Need-least-requires
+least-requires c κs = search needs
+
+least-requires-2 : tie.Need-least-requires-2
+least-requires-2 c κs = search needs
+
+returns-3 : tie.Need-returns-3
+unfolding bestOf
+returns-3 c = rw (le-leb _ cap (c .before .before .before .if1 .left), le-leb _ cap (c .before .before .if2 .left)) (omega arith)
 
 pub joined-spec : {M : Type 1} → statement M
-joined-spec = tie.close (tie.spec returns better-requires returns-2)
+joined-spec =
+    tie.close (tie.spec returns returns-2 add-least least-requires least-requires-2 returns-3)

@@ -30,10 +30,9 @@ cast-cross-pushes-2 : tie.Need-cast-cross-pushes-2
 cast-cross-pushes-2 c = search needs
 
 cross-pushes-requires : tie.Need-cross-pushes-requires
-cross-pushes-requires c κs =
+cross-pushes-requires c κs = 
     let pre = c .before .before .before .before .before .before .before .before .before .before .pre in
-    let right = c .before .before .before .before .right in
-    omega (arith, rw (right .given .1) at (pre .4 .symbols))
+    (omega (arith, rw (c .before .before .before .before .right .given .1) at (pre .0 .4 .symbols)), pre .1)
 
 returns : tie.Need-returns
 returns c = (rw (c .enum-told .given .1) (unchanged _), omega arith)

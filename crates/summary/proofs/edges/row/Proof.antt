@@ -1,11 +1,12 @@
 -- `row` meets its contract. The invariant: the edges below d are relaxed, with the fixed part as it was read at the start.
 use mathlib.Core.Path.{_≡_}
-use Prim.Native.Nat.{_≤_, _-_}
-use native.Mathlib.Nat.{le-antisymm}
+use Prim.Native.Nat.{_+_, _≤_, _-_}
+use native.Mathlib.Nat.{le-refl, le-antisymm}
 use lib.ListN.{length}
 use borrow.Author.Needs.{needs}
 use Rattle.summary.proofs.Rows.{row-turn, row-start, row-idle}
 use Rattle.summary.specs.Edges.{Relaxed, Row}
+use Rattle.summary.proofs.Capped.{within}
 use Rattle.summary.proofs.edges.row.Statement.{statement}
 use Rattle.summary.proofs.edges.row.Tie as tie
 
@@ -50,7 +51,14 @@ slice-read-better : tie.Need-slice-read-better Inv-loop μ-loop
 slice-read-better c = search needs
 
 better-requires : tie.Need-better-requires Inv-loop μ-loop
-better-requires c κs = search needs
+better-requires c κs =
+    let pre = c .before .before .before .before .before .before .before .pre in
+    let args = c .before .before .before .before .before .before .before .args in
+    let loop = c .before .before .before .loop in (
+      search needs,
+      within {u = loop .table} (loop .inv .3 .low) (pre .1 .1) (le-refl _) .most (args .b + loop .d) (search needs),
+      within {u = loop .table} (loop .inv .3 .low) (pre .1 .0) (le-refl _) .most (args .to + loop .d) (search needs),
+    )
 
 add-table : tie.Need-add-table Inv-loop μ-loop
 add-table c = search needs
@@ -82,6 +90,9 @@ loop-again c =
       rw (c .fallen .ensures .0)
           (row-turn (loop .inv .3) (c .before .before .before .before .before .before .if1 .left) (search needs) _ (c .before .better .ensures)),
     )
+
+cast-result : tie.Need-cast-result Inv-loop μ-loop
+cast-result c = search needs
 
 same-length : tie.Need-same-length Inv-loop μ-loop
 same-length c = search needs
@@ -117,5 +128,6 @@ row-spec =
     add-d
     loop-less
     loop-again
+    cast-result
     same-length
     returns-2)

@@ -4,7 +4,7 @@ use Rattle.summary.proofs.edges.usual_row.Statement.{statement}
 use Rattle.summary.proofs.edges.usual_row.Tie as tie
 
 row-requires : tie.Need-row-requires
-row-requires c κs = search needs
+row-requires c κs = let pre = c .before .before .before .pre in rw (c .before .if1 .taken) at pre
 
 same-length : tie.Need-same-length
 same-length c = search needs
@@ -13,7 +13,7 @@ returns : tie.Need-returns
 returns c = rw (c .before .before .before .before .if1 .taken) (c .before .before .row .ensures)
 
 row-requires-2 : tie.Need-row-requires-2
-row-requires-2 c κs = search needs
+row-requires-2 c κs = c .before .before .before .pre
 
 same-length-2 : tie.Need-same-length-2
 same-length-2 c = search needs

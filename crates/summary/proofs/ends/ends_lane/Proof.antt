@@ -5,6 +5,7 @@ use borrow.Author.Needs.{needs}
 use Rattle.summary.specs.Cells.{plain, lane, laneOf, first, rest}
 use Rattle.summary.specs.Edges.{Row, Below}
 use Rattle.summary.proofs.Loops.{Turning, starts, turns, ends}
+use Rattle.summary.proofs.Capped.{held}
 use Rattle.summary.proofs.ends.ends_lane.Statement.{statement}
 use Rattle.summary.proofs.ends.ends_lane.Tie as tie
 
@@ -19,7 +20,7 @@ loop-holds : tie.Need-loop-holds Inv-loop μ-loop
 loop-holds c = starts _ _ _ _
 
 ends-symbol-requires : tie.Need-ends-symbol-requires Inv-loop μ-loop
-ends-symbol-requires c κs = search needs
+ends-symbol-requires c κs = (search needs, held (c .before .before .loop .inv .relaxed) (c .before .before .before .before .pre .1))
 
 add-changes : tie.Need-add-changes Inv-loop μ-loop
 add-changes c = search needs

@@ -4,6 +4,7 @@ use borrow.Author.Needs.{needs}
 use Rattle.summary.specs.Cells.{plain, rest}
 use Rattle.summary.specs.Edges.{Row}
 use Rattle.summary.proofs.Loops.{Turning, starts, turns, ends}
+use Rattle.summary.proofs.Capped.{held, rows-in}
 use Rattle.summary.proofs.ends.named_edges.Statement.{statement}
 use Rattle.summary.proofs.ends.named_edges.Tie as tie
 
@@ -27,7 +28,7 @@ plain-cell-requires : tie.Need-plain-cell-requires Inv-loop μ-loop
 plain-cell-requires c κs = search needs
 
 row-requires : tie.Need-row-requires Inv-loop μ-loop
-row-requires c κs = search needs
+row-requires c κs = (search needs, rows-in (held (c .before .before .before .loop .inv .relaxed) (c .before .before .before .before .before .before .pre .1)) (search needs))
 
 add-changes : tie.Need-add-changes Inv-loop μ-loop
 add-changes c = search needs

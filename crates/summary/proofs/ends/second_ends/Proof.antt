@@ -5,6 +5,7 @@ use borrow.Author.Needs.{needs}
 use Rattle.summary.specs.Cells.{lane, first, second, rest}
 use Rattle.summary.specs.Edges.{Row}
 use Rattle.summary.proofs.Loops.{Turning, starts, turns, ends}
+use Rattle.summary.proofs.Capped.{held, rows-in}
 use Rattle.summary.proofs.ends.second_ends.Statement.{statement}
 use Rattle.summary.proofs.ends.second_ends.Tie as tie
 
@@ -24,11 +25,11 @@ lane-cell-requires c κs = search needs
 lane-cell-requires-2 : tie.Need-lane-cell-requires-2 Inv-loop μ-loop
 lane-cell-requires-2 c κs = search needs
 
-mul-usual-row : tie.Need-mul-usual-row Inv-loop μ-loop
-mul-usual-row c = search needs
+mul-long-row : tie.Need-mul-long-row Inv-loop μ-loop
+mul-long-row c = search needs
 
-usual-row-requires : tie.Need-usual-row-requires Inv-loop μ-loop
-usual-row-requires c κs = search needs
+long-row-requires : tie.Need-long-row-requires Inv-loop μ-loop
+long-row-requires c κs = (search needs, rows-in (held (c .before .before .before .before .loop .inv .relaxed) (c .before .before .before .before .before .before .pre .1)) (search needs))
 
 add-changes : tie.Need-add-changes Inv-loop μ-loop
 add-changes c = search needs
@@ -45,7 +46,7 @@ loop-again c =
     let loop-test = c .before .before .before .before .before .before .loop-test in
     let lane-cell = c .before .before .before .before .lane-cell in
     let lane-cell2 = c .before .before .before .lane-cell2 in
-    let row = c .before .before .usual-row in
+    let row = c .before .before .long-row in
     turns (loop .inv) (loop-test .taken) (rw (lane-cell .ensures, lane-cell2 .ensures) at (row .ensures .0))
     (omega arith)
 
@@ -64,8 +65,8 @@ second-ends-spec =
     loop-holds
     lane-cell-requires
     lane-cell-requires-2
-    mul-usual-row
-    usual-row-requires
+    mul-long-row
+    long-row-requires
     add-changes
     add-top
     loop-less

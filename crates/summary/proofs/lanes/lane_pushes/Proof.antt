@@ -7,6 +7,7 @@ use Rattle.summary.specs.Cells.{plain, lane}
 use Rattle.summary.specs.Edges.{Row, Below}
 use Rattle.summary.proofs.Loops.{Turning, starts, turns, ends}
 use Rattle.summary.proofs.Relaxing.{then}
+use Rattle.summary.proofs.Capped.{held, rows-in}
 use Rattle.summary.proofs.lanes.lane_pushes.Statement.{statement}
 use Rattle.summary.proofs.lanes.lane_pushes.Tie as tie
 
@@ -31,17 +32,17 @@ plain-cell-requires c κs = search needs
 lane-cell-requires-2 : tie.Need-lane-cell-requires-2 Inv-loop μ-loop
 lane-cell-requires-2 c κs = search needs
 
-mul-usual-row : tie.Need-mul-usual-row Inv-loop μ-loop
-mul-usual-row c = search needs
+mul-long-row : tie.Need-mul-long-row Inv-loop μ-loop
+mul-long-row c = search needs
 
-usual-row-requires : tie.Need-usual-row-requires Inv-loop μ-loop
-usual-row-requires c κs = search needs
+long-row-requires : tie.Need-long-row-requires Inv-loop μ-loop
+long-row-requires c κs = (search needs, rows-in (held (c .before .before .before .before .before .loop .inv .relaxed) (c .before .before .before .before .before .before .before .pre .1)) (search needs))
 
 lane-cell-requires-3 : tie.Need-lane-cell-requires-3 Inv-loop μ-loop
 lane-cell-requires-3 c κs = search needs
 
 lane-pops-requires : tie.Need-lane-pops-requires Inv-loop μ-loop
-lane-pops-requires c κs = search needs
+lane-pops-requires c κs = (search needs, held (c .before .before .before .before .long-row .ensures .0) (held (c .before .before .before .before .before .before .before .before .before .before .loop .inv .relaxed) (c .before .before .before .before .before .before .before .before .before .before .before .before .pre .1)))
 
 add-changes : tie.Need-add-changes Inv-loop μ-loop
 add-changes c = search needs
@@ -62,14 +63,14 @@ loop-again c =
     let lane-cell = c .before .before .before .before .before .before .before .before .before .before .lane-cell in
     let plain-cell = c .before .before .before .before .before .before .before .before .before .plain-cell in
     let lane-cell2 = c .before .before .before .before .before .before .before .before .lane-cell2 in
-    let row = c .before .before .before .before .before .before .before .usual-row in
+    let row = c .before .before .before .before .before .before .before .long-row in
     let lane-cell3 = c .before .before .before .lane-cell3 in
     let lane-pops = c .before .before .lane-pops in
     let pre = c .before .before .before .before .before .before .before .before .before .before .before .before .before .before .before .pre in
     turns (loop .inv) (loop-test .taken)
     (then (rw (lane-cell .ensures, plain-cell .ensures, lane-cell2 .ensures) at (row .ensures .0))
     (rw (lane-cell3 .ensures) at (lane-pops .ensures .0)))
-    (omega (arith, pre .2))
+    (omega (arith, pre .0 .2))
 
 same-length : tie.Need-same-length Inv-loop μ-loop
 same-length c = search needs
@@ -87,8 +88,8 @@ lane-pushes-spec =
     lane-cell-requires
     plain-cell-requires
     lane-cell-requires-2
-    mul-usual-row
-    usual-row-requires
+    mul-long-row
+    long-row-requires
     lane-cell-requires-3
     lane-pops-requires
     add-changes

@@ -2,6 +2,7 @@
 use native.Mathlib.Omega.{arith}
 use borrow.Author.Needs.{needs}
 use Rattle.summary.proofs.Relaxing.{then, unchanged}
+use Rattle.summary.proofs.Capped.{held, rows-in}
 use Rattle.summary.proofs.lanes.lane_rule.Statement.{statement}
 use Rattle.summary.proofs.lanes.lane_rule.Tie as tie
 
@@ -30,16 +31,16 @@ lane-cell-requires-2 : tie.Need-lane-cell-requires-2
 lane-cell-requires-2 c κs =
     let pre = c .before .before .before .before .before .before .before .before .before .before .pre in
     let right = c .before .before .before .before .right in
-    omega (arith, rw (right .given .1) at (pre .5 .symbols))
+    omega (arith, rw (right .given .1) at (pre .0 .5 .symbols))
 
-mul-usual-row : tie.Need-mul-usual-row
-mul-usual-row c = search needs
+mul-long-row : tie.Need-mul-long-row
+mul-long-row c = search needs
 
-usual-row-requires : tie.Need-usual-row-requires
-usual-row-requires c κs =
+long-row-requires : tie.Need-long-row-requires
+long-row-requires c κs = 
     let pre = c .before .before .before .before .before .before .before .before .before .before .before .pre in
-    let right = c .before .before .before .before .before .right in
-    omega (arith, rw (right .given .1) at (pre .5 .symbols))
+    let right = rw (c .before .before .before .before .before .right .given .1) at (pre .0 .5 .symbols) in
+    (omega (arith, right), rows-in (pre .1) (omega (arith, right)))
 
 enum-known-right-2 : tie.Need-enum-known-right-2
 enum-known-right-2 c = search needs
@@ -51,10 +52,9 @@ cast-lane-pushes-2 : tie.Need-cast-lane-pushes-2
 cast-lane-pushes-2 c = search needs
 
 lane-pushes-requires : tie.Need-lane-pushes-requires
-lane-pushes-requires c κs =
+lane-pushes-requires c κs = 
     let pre = c .before .before .before .before .before .before .before .before .before .before .pre in
-    let right2 = c .before .before .before .before .right2 in
-    omega (arith, rw (right2 .given .1) at (pre .5 .symbols))
+    (omega (arith, rw (c .before .before .before .before .right2 .given .1) at (pre .0 .5 .symbols)), pre .1)
 
 lane-cell-requires-3 : tie.Need-lane-cell-requires-3
 lane-cell-requires-3 c κs = search needs
@@ -66,24 +66,24 @@ lane-cell-requires-4 : tie.Need-lane-cell-requires-4
 lane-cell-requires-4 c κs =
     let pre = c .before .before .before .before .before .before .before .before .before .before .before .before .before .before .before .before .pre in
     let right2 = c .before .before .before .before .before .before .before .before .before .before .right2 in
-    omega (arith, rw (right2 .given .1) at (pre .5 .symbols))
+    omega (arith, rw (right2 .given .1) at (pre .0 .5 .symbols))
 
-sub-usual-row : tie.Need-sub-usual-row
-sub-usual-row c = search needs
+sub-long-row : tie.Need-sub-long-row
+sub-long-row c = search needs
 
-mul-usual-row-2 : tie.Need-mul-usual-row-2
-mul-usual-row-2 c = search needs
+mul-long-row-2 : tie.Need-mul-long-row-2
+mul-long-row-2 c = search needs
 
-usual-row-requires-2 : tie.Need-usual-row-requires-2
-usual-row-requires-2 c κs =
+long-row-requires-2 : tie.Need-long-row-requires-2
+long-row-requires-2 c κs = 
     let pre = c .before .before .before .before .before .before .before .before .before .before .before .before .before .before .before .before .before .pre in
-    let right2 = c .before .before .before .before .before .before .before .before .before .before .before .right2 in
-    omega (arith, rw (right2 .given .1) at (pre .5 .symbols), pre)
+    let right = rw (c .before .before .before .before .before .before .before .before .before .before .before .right2 .given .1) at (pre .0 .5 .symbols) in
+    (omega (arith, right, pre .0), rows-in (held (c .before .before .before .before .before .before .lane-pushes .ensures .0) (pre .1)) (omega (arith, right, pre .0)))
 
 add-result : tie.Need-add-result
 add-result c =
     let pre = c .before .before .before .before .before .before .before .before .before .before .before .before .before .before .before .before .before .before .before .before .pre in
-    omega (arith, pre .3, pre .4)
+    omega (arith, pre .0 .3, pre .0 .4)
 
 returns : tie.Need-returns
 returns c = (rw (c .enum-told .given .1) (unchanged _), omega arith)
@@ -96,8 +96,8 @@ returns-2 c =
     let right = c .before .before .before .before .before .before .before .before .right in
     let lane-cell = c .before .before .before .before .before .lane-cell in
     let lane-cell2 = c .before .before .before .lane-cell2 in
-    let row = c .before .before .usual-row in
-    (rw (right .given .1) (rw (lane-cell .ensures, lane-cell2 .ensures) at (row .ensures .0)), omega arith)
+    let row = c .before .before .long-row in
+    (rw (right .given .1) (rw (lane-cell .ensures, lane-cell2 .ensures) at (row .ensures .0)), omega (arith, c .before .before .before .before .before .before .before .before .before .before .before .before .before .before .pre .0 .3))
 
 same-length-2 : tie.Need-same-length-2
 same-length-2 c = search needs
@@ -109,8 +109,8 @@ returns-3 c =
     let lane-pushes = c .before .before .before .before .before .before .before .before .before .lane-pushes in
     let lane-cell3 = c .before .before .before .before .before .lane-cell3 in
     let lane-cell4 = c .before .before .before .lane-cell4 in
-    let row2 = c .before .before .usual-row2 in
-    (rw (right2 .given .1) (then (lane-pushes .ensures .0) (rw (lane-cell3 .ensures, lane-cell4 .ensures) at (row2 .ensures .0))), omega (arith, pre .3, pre .4))
+    let row2 = c .before .before .long-row2 in
+    (rw (right2 .given .1) (then (lane-pushes .ensures .0) (rw (lane-cell3 .ensures, lane-cell4 .ensures) at (row2 .ensures .0))), omega (arith, pre .0 .3, pre .0 .4))
 
 pub lane-rule-spec : {M : Type 1} → statement M
 lane-rule-spec =
@@ -124,8 +124,8 @@ lane-rule-spec =
     lane-cell-requires
     cast-lane-cell
     lane-cell-requires-2
-    mul-usual-row
-    usual-row-requires
+    mul-long-row
+    long-row-requires
     enum-known-right-2
     cast-lane-pushes
     cast-lane-pushes-2
@@ -133,9 +133,9 @@ lane-rule-spec =
     lane-cell-requires-3
     cast-lane-cell-2
     lane-cell-requires-4
-    sub-usual-row
-    mul-usual-row-2
-    usual-row-requires-2
+    sub-long-row
+    mul-long-row-2
+    long-row-requires-2
     add-result
     returns
     same-length

@@ -5,6 +5,7 @@ use borrow.Author.Needs.{needs}
 use Rattle.summary.specs.Cells.{plain}
 use Rattle.summary.specs.Edges.{Row}
 use Rattle.summary.proofs.Loops.{Turning, starts, turns, ends}
+use Rattle.summary.proofs.Capped.{held, rows-in}
 use Rattle.summary.proofs.plain.plain_pushes.Statement.{statement}
 use Rattle.summary.proofs.plain.plain_pushes.Tie as tie
 
@@ -28,7 +29,7 @@ plain-cell-requires-3 : tie.Need-plain-cell-requires-3 Inv-loop μ-loop
 plain-cell-requires-3 c κs = search needs
 
 usual-row-requires : tie.Need-usual-row-requires Inv-loop μ-loop
-usual-row-requires c κs = search needs
+usual-row-requires c κs = (search needs, rows-in (held (c .before .before .before .before .before .loop .inv .relaxed) (c .before .before .before .before .before .before .before .pre .1)) (search needs))
 
 add-changes : tie.Need-add-changes Inv-loop μ-loop
 add-changes c = search needs

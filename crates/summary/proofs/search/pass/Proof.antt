@@ -8,6 +8,7 @@ use Rattle.model.specs.Rules.{ruleAt}
 use Rattle.model.proofs.Checks.{length-mapped}
 use Rattle.summary.specs.Kinds.{RuleEdges}
 use Rattle.summary.proofs.Loops.{Turning, starts, turns, ends}
+use Rattle.summary.proofs.Capped.{held}
 use Rattle.summary.proofs.search.pass.Statement.{statement}
 use Rattle.summary.proofs.search.pass.Tie as tie
 
@@ -28,10 +29,10 @@ element-copy-out-rule : tie.Need-element-copy-out-rule Inv-loop μ-loop
 element-copy-out-rule c = search needs
 
 relax-requires : tie.Need-relax-requires Inv-loop μ-loop
-relax-requires c κs =
+relax-requires c κs = 
     let pre = c .before .before .before .before .before .pre in
-    let loop-test = c .before .before .loop-test in
-    (search needs, search needs, search needs, search needs, search needs, pre .5 .rules _ (loop-test .taken))
+    let fits = pre .0 .5 .rules _ (c .before .before .loop-test .taken) in
+    ((search needs, search needs, search needs, search needs, search needs, fits), held (c .before .before .before .loop .inv .0 .relaxed) (pre .1))
 
 add-changes : tie.Need-add-changes Inv-loop μ-loop
 add-changes c = search needs

@@ -6,6 +6,8 @@ use Rattle.summary.specs.Cells.{Rules}
 use Rattle.summary.specs.Edges.{sum}
 use Rattle.summary.specs.Kinds.{RuleEdges}
 use Rattle.summary.proofs.Loops.{Closing, opens, passes, closes}
+use Rattle.summary.proofs.Capped.{within}
+use native.Mathlib.Nat.{le-refl}
 use Rattle.summary.proofs.search.settle.Statement.{statement}
 use Rattle.summary.proofs.search.settle.Tie as tie
 
@@ -19,7 +21,9 @@ loop-holds : tie.Need-loop-holds Inv-loop μ-loop
 loop-holds c = opens _ _
 
 pass-requires : tie.Need-pass-requires Inv-loop μ-loop
-pass-requires c κs = let pre = c .before .before .before .before .pre in (search needs, pre .1, pre .2, search needs, pre .4, pre .5)
+pass-requires c κs = 
+    let pre = c .before .before .before .before .pre in
+    ((search needs, pre .0 .1, pre .0 .2, search needs, pre .0 .4, pre .0 .5), within (c .before .before .loop .inv .low) (pre .1) (le-refl _))
 
 loop-less : tie.Need-loop-less Inv-loop μ-loop
 loop-less c = search needs

@@ -6,6 +6,7 @@ use Rattle.summary.proofs.Exacts.{first-summed}
 use Rattle.summary.proofs.Joins.{dests-range}
 use Rattle.summary.proofs.Solving.{solves-next}
 use Rattle.summary.proofs.Spans.{plains-span, first-ends-span, lane-span}
+use Rattle.summary.proofs.Capped.{held, reset-counts}
 use Rattle.summary.proofs.turns.close_first.Statement.{statement}
 use Rattle.summary.proofs.turns.close_first.Tie as tie
 
@@ -16,10 +17,10 @@ reset-requires : tie.Need-reset-requires
 reset-requires c κs = search needs
 
 first-ends-requires : tie.Need-first-ends-requires
-first-ends-requires c κs = search needs
+first-ends-requires c κs = (search needs, reset-counts (c .before .before .before .before .before .before .before .pre .4) (c .before .before .before .reset .ensures))
 
 settle-requires : tie.Need-settle-requires
-settle-requires c κs = search needs
+settle-requires c κs = (search needs, held (c .before .before .before .first-ends .ensures) (reset-counts (c .before .before .before .before .before .before .before .before .before .before .before .pre .4) (c .before .before .before .before .before .before .before .reset .ensures)))
 
 same-length : tie.Need-same-length
 same-length c = search needs

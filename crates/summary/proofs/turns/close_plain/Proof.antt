@@ -6,6 +6,7 @@ use Rattle.summary.proofs.Joins.{dests-range}
 use Rattle.summary.proofs.Resets.{top-zeros}
 use Rattle.summary.proofs.Solving.{solves-first}
 use Rattle.summary.proofs.Spans.{top-span, plain-span}
+use Rattle.summary.proofs.Capped.{held, blank-counts}
 use Rattle.summary.proofs.turns.close_plain.Statement.{statement}
 use Rattle.summary.proofs.turns.close_plain.Tie as tie
 
@@ -16,10 +17,10 @@ reset-requires : tie.Need-reset-requires
 reset-requires c κs = search needs
 
 top-edges-requires : tie.Need-top-edges-requires
-top-edges-requires c κs = search needs
+top-edges-requires c κs = (search needs, blank-counts (c .before .before .before .reset .ensures))
 
 settle-requires : tie.Need-settle-requires
-settle-requires c κs = search needs
+settle-requires c κs = (search needs, held (c .before .before .before .top-edges .ensures) (blank-counts (c .before .before .before .before .before .before .before .reset .ensures)))
 
 same-length : tie.Need-same-length
 same-length c = search needs

@@ -8,6 +8,7 @@ use Rattle.summary.proofs.Exacts.{second-summed}
 use Rattle.summary.proofs.Joins.{dests-range}
 use Rattle.summary.proofs.Solving.{solves-next, apart}
 use Rattle.summary.proofs.Spans.{first-span, second-ends-span, cross-span, lane-span, either}
+use Rattle.summary.proofs.Capped.{held, reset-counts}
 use Rattle.summary.proofs.turns.close_second.Statement.{statement}
 use Rattle.summary.proofs.turns.close_second.Tie as tie
 
@@ -18,7 +19,7 @@ reset-requires : tie.Need-reset-requires
 reset-requires c κs = search needs
 
 second-ends-requires : tie.Need-second-ends-requires
-second-ends-requires c κs = search needs
+second-ends-requires c κs = (search needs, reset-counts (c .before .before .before .before .before .before .before .pre .6) (c .before .before .before .reset .ensures))
 
 mul-lane : tie.Need-mul-lane
 mul-lane c = search needs
@@ -27,10 +28,13 @@ add-lane : tie.Need-add-lane
 add-lane c = search needs
 
 pass-requires : tie.Need-pass-requires
-pass-requires c κs = search needs
+pass-requires c κs = (search needs, held (c .before .before .before .second-ends .ensures) (reset-counts (c .before .before .before .before .before .before .before .before .before .before .before .pre .6) (c .before .before .before .before .before .before .before .reset .ensures)))
 
 settle-requires : tie.Need-settle-requires
-settle-requires c κs = search needs
+settle-requires c κs = 
+    let blank = reset-counts (c .before .before .before .before .before .before .before .before .before .before .before .before .before .before .before .pre .6) (c .before .before .before .before .before .before .before .before .before .before .before .reset .ensures) in
+    let ends = held (c .before .before .before .before .before .before .before .second-ends .ensures) blank in
+    (search needs, held (c .before .before .before .pass .ensures .0) ends)
 
 same-length : tie.Need-same-length
 same-length c = search needs

@@ -5,6 +5,9 @@ use Rattle.witness.specs.Plan.{endsIn}
 use Rattle.witness.proofs.tight.entry_of.Statement.{statement}
 use Rattle.witness.proofs.tight.entry_of.Tie as tie
 
+cast-result : tie.Need-cast-result
+cast-result c = search needs
+
 returns : tie.Need-returns
 returns c = entry-late _ _ _ (c .if1 .taken)
 
@@ -20,6 +23,9 @@ lane-to-requires c κs = search needs
 entry-at-requires : tie.Need-entry-at-requires
 entry-at-requires c κs = search needs
 
+cast-result-2 : tie.Need-cast-result-2
+cast-result-2 c = search needs
+
 returns-2 : tie.Need-returns-2
 returns-2 c =
     let start = c .before .before .before .before .before .before .before .before .before in
@@ -32,9 +38,11 @@ pub entry-of-spec : {M : Type 1} → statement M
 entry-of-spec =
     tie.close
     (tie.spec
+    cast-result
     returns
     lane-in-requires
     lane-in-requires-2
     lane-to-requires
     entry-at-requires
+    cast-result-2
     returns-2)
