@@ -1,7 +1,7 @@
 -- Cells that hold counts go on doing so, for counts only fall; and a blank cell holds one.
 use mathlib.Core.Bool.{Bool, true, false, cond, _&&_}
 use mathlib.Core.List.{List}
-use Prim.Native.Nat.{ℕ, _+_, _/_, _%_, _≤_, _<_}
+use Prim.Native.Nat.{ℕ, _+_, _/_, _%_, _≤_}
 use native.Mathlib.Decide.{decLt}
 use native.Mathlib.Nat.{le-refl, le-trans}
 use native.Mathlib.Omega.{arith}
@@ -22,6 +22,7 @@ held r c = within (r .low) c (le-refl _)
 pub rows-in : {bound end more : ℕ} {t : List ℕ} → Counts bound t → (end ≤ bound) × (more ≤ bound) → Counts end t × Counts more t
 rows-in {t = t} c h = (within (λ at. le-refl (cell t at)) c (h .0), within (λ at. le-refl (cell t at)) c (h .1))
 
+-- A blank cell holds one.
 blank-count : (at : ℕ) → blank at ≤ unreached
 unfolding blank
 blank-count at = either (ltb at first && eqb (at % 12) (4 + at / 204))

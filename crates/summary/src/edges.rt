@@ -1,17 +1,14 @@
 // Relaxing edges of a table: a cell falls to what two other cells offer it. Sixteen bits hold each sum before it is capped.
 use crate::CAP;
 ghost use mathlib.Core.Path.{_≡_};
-ghost use Prim.Native.Nat.{_+_, _≤_, _<_, min, max};
-ghost use lib.ListN.{length};
-ghost use Rattle.summary.specs.Edges.{bestOf, less, Counts, Relaxed, Row};
+ghost use Prim.Native.Nat.{_+_, _≤_, min, max};
+ghost use Rattle.summary.specs.Edges.{bestOf, less, Counts, Relaxed, Row, RowFits};
 ghost use Rattle.summary.specs.Table.{cap, unreached};
 
 // For each x below `count`: cell to + x is at most w more than cells a and b + x together. How many cells have fallen. Nothing in
 // the loop branches, so the compiler does eight cells at once.
 pub fn row(table: &mut [u16], w: u16, to: usize, a: usize, b: usize, count: usize) -> u64
-    requires { ⌜
-        (w ≤ 1) × (a < length (now table)) × (to + count ≤ length (now table)) × (b + count ≤ length (now table)) × (count ≤ 192)
-        ⌝ ∗ ⌜ Counts (to + count) (now table) × Counts (b + count) (now table) ⌝ }
+    requires { ⌜ RowFits w to a b count (now table) ⌝ ∗ ⌜ Counts (to + count) (now table) × Counts (b + count) (now table) ⌝ }
     ensures { λ r. ⌜ Relaxed (Row w to a b count) (now (table .entry)) (now (table .exit)) r × (r ≤ count) ⌝ }
 {
     let x = table[a];
@@ -41,9 +38,7 @@ pub fn usual_row(
     count: usize,
     usual: usize,
 ) -> u64
-    requires { ⌜
-        (w ≤ 1) × (a < length (now table)) × (to + count ≤ length (now table)) × (b + count ≤ length (now table)) × (count ≤ 192)
-        ⌝ ∗ ⌜ Counts (to + count) (now table) × Counts (b + count) (now table) ⌝ }
+    requires { ⌜ RowFits w to a b count (now table) ⌝ ∗ ⌜ Counts (to + count) (now table) × Counts (b + count) (now table) ⌝ }
     ensures { λ r. ⌜ Relaxed (Row w to a b count) (now (table .entry)) (now (table .exit)) r × (r ≤ count) ⌝ }
 {
     if count == usual {
@@ -56,9 +51,7 @@ pub fn usual_row(
 // that for a whole loop around them: with this loop it is the one row and not those of all states. A row over itself changes
 // nothing.
 pub fn long_row(table: &mut [u16], w: u16, to: usize, a: usize, b: usize, count: usize) -> u64
-    requires { ⌜
-        (w ≤ 1) × (a < length (now table)) × (to + count ≤ length (now table)) × (b + count ≤ length (now table)) × (count ≤ 192)
-        ⌝ ∗ ⌜ Counts (to + count) (now table) × Counts (b + count) (now table) ⌝ }
+    requires { ⌜ RowFits w to a b count (now table) ⌝ ∗ ⌜ Counts (to + count) (now table) × Counts (b + count) (now table) ⌝ }
     ensures { λ r. ⌜ Relaxed (Row w to a b count) (now (table .entry)) (now (table .exit)) r × (r ≤ count) ⌝ }
 {
     if to == b {

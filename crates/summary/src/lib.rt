@@ -1,4 +1,4 @@
-// Least step counts of one thread.
+// Least step counts of one thread. They are held in sixteen bits: none is above 4,097, so two of them and a step add up without wrapping.
 pub mod cells;
 mod cross;
 pub mod edges;

@@ -30,7 +30,7 @@ cast-cross-pushes-2 : tie.Need-cast-cross-pushes-2
 cast-cross-pushes-2 c = search needs
 
 cross-pushes-requires : tie.Need-cross-pushes-requires
-cross-pushes-requires c κs = 
+cross-pushes-requires c κs =
     let pre = c .before .before .before .before .before .before .before .before .before .before .pre in
     (omega (arith, rw (c .before .before .before .before .right .given .1) at (pre .0 .4 .symbols)), pre .1)
 

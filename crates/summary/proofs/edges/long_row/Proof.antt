@@ -34,7 +34,7 @@ add-row-2 : tie.Need-add-row-2 Inv-loop μ-loop
 add-row-2 c = search needs
 
 row-requires : tie.Need-row-requires Inv-loop μ-loop
-row-requires c κs = 
+row-requires c κs =
     let pre = c .before .before .before .before .before .before .pre in
     let low = c .before .before .before .loop .inv .2 .low in
     (search needs, (within low (pre .1 .0) (search needs), within low (pre .1 .1) (search needs)))

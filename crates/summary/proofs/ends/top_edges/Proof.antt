@@ -11,7 +11,7 @@ enum-known-top : tie.Need-enum-known-top
 enum-known-top c = search needs
 
 named-edges-requires : tie.Need-named-edges-requires
-named-edges-requires c κs = 
+named-edges-requires c κs =
     let pre = c .before .before .before .before .before .pre in
     ((pre .0 .0, pre .0 .1, rw (c .before .before .top .given .1) at (pre .0 .2)), pre .1)
 

@@ -37,7 +37,7 @@ mul-long-row : tie.Need-mul-long-row
 mul-long-row c = search needs
 
 long-row-requires : tie.Need-long-row-requires
-long-row-requires c κs = 
+long-row-requires c κs =
     let pre = c .before .before .before .before .before .before .before .before .before .before .before .pre in
     let right = rw (c .before .before .before .before .before .right .given .1) at (pre .0 .5 .symbols) in
     (omega (arith, right), rows-in (pre .1) (omega (arith, right)))
@@ -52,7 +52,7 @@ cast-lane-pushes-2 : tie.Need-cast-lane-pushes-2
 cast-lane-pushes-2 c = search needs
 
 lane-pushes-requires : tie.Need-lane-pushes-requires
-lane-pushes-requires c κs = 
+lane-pushes-requires c κs =
     let pre = c .before .before .before .before .before .before .before .before .before .before .pre in
     (omega (arith, rw (c .before .before .before .before .right2 .given .1) at (pre .0 .5 .symbols)), pre .1)
 
@@ -75,7 +75,7 @@ mul-long-row-2 : tie.Need-mul-long-row-2
 mul-long-row-2 c = search needs
 
 long-row-requires-2 : tie.Need-long-row-requires-2
-long-row-requires-2 c κs = 
+long-row-requires-2 c κs =
     let pre = c .before .before .before .before .before .before .before .before .before .before .before .before .before .before .before .before .before .pre in
     let right = rw (c .before .before .before .before .before .before .before .before .before .before .before .right2 .given .1) at (pre .0 .5 .symbols) in
     (omega (arith, right, pre .0), rows-in (held (c .before .before .before .before .before .before .lane-pushes .ensures .0) (pre .1)) (omega (arith, right, pre .0)))

@@ -40,7 +40,7 @@ plain-cell-requires-3 c κs =
     omega (arith, rw (right .given .1) at (pre .0 .4 .symbols))
 
 usual-row-requires : tie.Need-usual-row-requires
-usual-row-requires c κs = 
+usual-row-requires c κs =
     let pre = c .before .before .before .before .before .before .before .before .before .before .before .pre in
     let right = rw (c .before .before .before .before .before .right .given .1) at (pre .0 .4 .symbols) in
     (search needs, rows-in (pre .1) (omega (arith, right)))
@@ -55,7 +55,7 @@ cast-plain-pushes-2 : tie.Need-cast-plain-pushes-2
 cast-plain-pushes-2 c = search needs
 
 plain-pushes-requires : tie.Need-plain-pushes-requires
-plain-pushes-requires c κs = 
+plain-pushes-requires c κs =
     let pre = c .before .before .before .before .before .before .before .before .before .before .pre in
     (omega (arith, rw (c .before .before .before .before .right2 .given .1) at (pre .0 .4 .symbols)), pre .1)
 
@@ -75,7 +75,7 @@ sub-usual-row : tie.Need-sub-usual-row
 sub-usual-row c = search needs
 
 usual-row-requires-2 : tie.Need-usual-row-requires-2
-usual-row-requires-2 c κs = 
+usual-row-requires-2 c κs =
     let pre = c .before .before .before .before .before .before .before .before .before .before .before .before .before .before .before .before .before .pre in
     let right = rw (c .before .before .before .before .before .before .before .before .before .before .before .right2 .given .1) at (pre .0 .4 .symbols) in
     (search needs, rows-in (held (c .before .before .before .before .before .before .plain-pushes .ensures .0) (pre .1)) (omega (arith, right)))

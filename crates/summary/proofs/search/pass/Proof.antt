@@ -29,7 +29,7 @@ element-copy-out-rule : tie.Need-element-copy-out-rule Inv-loop μ-loop
 element-copy-out-rule c = search needs
 
 relax-requires : tie.Need-relax-requires Inv-loop μ-loop
-relax-requires c κs = 
+relax-requires c κs =
     let pre = c .before .before .before .before .before .pre in
     let fits = pre .0 .5 .rules _ (c .before .before .loop-test .taken) in
     ((search needs, search needs, search needs, search needs, search needs, fits), held (c .before .before .before .loop .inv .0 .relaxed) (pre .1))

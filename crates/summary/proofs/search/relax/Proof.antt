@@ -8,7 +8,7 @@ enum-told : tie.Need-enum-told
 enum-told c = search needs
 
 plain-rule-requires : tie.Need-plain-rule-requires
-plain-rule-requires c κs = 
+plain-rule-requires c κs =
     let pre = c .before .before .before .before .pre in
     let fits = pre .0 in
     ((fits .0, fits .1, fits .2, fits .3, fits .5), rw (c .before .enum-told .given .1) at (pre .1))
@@ -17,7 +17,7 @@ enum-known-kind : tie.Need-enum-known-kind
 enum-known-kind c = search needs
 
 lane-rule-requires : tie.Need-lane-rule-requires
-lane-rule-requires c κs = 
+lane-rule-requires c κs =
     let pre = c .before .before .before .before .before .pre in
     let fits = pre .0 in
     let kind = c .before .before .kind .given .1 in
@@ -27,7 +27,7 @@ enum-known-kind-2 : tie.Need-enum-known-kind-2
 enum-known-kind-2 c = search needs
 
 cross-rule-requires : tie.Need-cross-rule-requires
-cross-rule-requires c κs = 
+cross-rule-requires c κs =
     let pre = c .before .before .before .before .before .pre in
     let fits = pre .0 in
     let kind = c .before .before .kind2 .given .1 in

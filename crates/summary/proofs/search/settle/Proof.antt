@@ -21,7 +21,7 @@ loop-holds : tie.Need-loop-holds Inv-loop μ-loop
 loop-holds c = opens _ _
 
 pass-requires : tie.Need-pass-requires Inv-loop μ-loop
-pass-requires c κs = 
+pass-requires c κs =
     let pre = c .before .before .before .before .pre in
     ((search needs, pre .0 .1, pre .0 .2, search needs, pre .0 .4, pre .0 .5), within (c .before .before .loop .inv .low) (pre .1) (le-refl _))
 

@@ -31,7 +31,7 @@ pass-requires : tie.Need-pass-requires
 pass-requires c κs = (search needs, held (c .before .before .before .second-ends .ensures) (reset-counts (c .before .before .before .before .before .before .before .before .before .before .before .pre .6) (c .before .before .before .before .before .before .before .reset .ensures)))
 
 settle-requires : tie.Need-settle-requires
-settle-requires c κs = 
+settle-requires c κs =
     let blank = reset-counts (c .before .before .before .before .before .before .before .before .before .before .before .before .before .before .before .pre .6) (c .before .before .before .before .before .before .before .before .before .before .before .reset .ensures) in
     let ends = held (c .before .before .before .before .before .before .before .second-ends .ensures) blank in
     (search needs, held (c .before .before .before .pass .ensures .0) ends)
