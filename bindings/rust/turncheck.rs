@@ -3,7 +3,7 @@
 //! Each call takes the bytes of a model record, or of a tray of them. A call that refuses changes no byte of any store.
 //! A record may name the symbol that tops A's stack at the target, B's, or both. A run reaches the target if it ends with the target
 //! state under the tops that are named; an empty stack has no top.
-//! The deepest models that we know take less than 700 KB of stack; a Rust thread has 2 MB by default.
+//! The deepest models that we know take less than 300 KB of stack; a Rust thread has 2 MB by default.
 
 /// The longest record.
 pub const RECORD_BYTES: usize = 652;
