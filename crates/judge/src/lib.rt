@@ -77,7 +77,7 @@ fn verdict(m: Model, lines: &mut [u8], schedule: &mut [u8]) -> Judgement
 
 // Whether a symbol is named.
 fn names(top: Top) -> bool
-    ensures { λ r. ⌜ (r ≡ false → top ≡ Any) ⌝ }
+    ensures { λ r. ⌜ (r ≡ false → top ≡ Any) × (top ≡ Any → r ≡ false) ⌝ }
 {
     match top {
         Top::Any => false,

@@ -49,11 +49,11 @@ part = 13056
 
 -- Where the part with two starts.
 abbrev pub second : ℕ
-second = 13872
+second = first + part
 
 -- Where the table ends.
 abbrev pub size : ℕ
-size = 26928
+size = second + part
 
 -- A cell that is 0: to stay in place takes no step. It serves edges that have one part.
 abbrev pub rest : ℕ

@@ -19,7 +19,7 @@ KindFits (Lanes base) = base ≤ second
 KindFits (Cross l) = l < 16
 
 -- Where the cells end that edges of a kind join.
-abbrev pub endOf : Kind → ℕ
-endOf Plain = first
-endOf (Lanes base) = base + part
-endOf (Cross l) = size
+abbrev pub partEnd : Kind → ℕ
+partEnd Plain = first
+partEnd (Lanes base) = base + part
+partEnd (Cross l) = size

@@ -11,13 +11,13 @@ ghost use lib.ListN.{length};
 ghost use Rattle.model.specs.Fits.{RuleFits, ThreadFits};
 ghost use Rattle.summary.specs.Cells.{size, Rules};
 ghost use Rattle.summary.specs.Edges.{Counts, Relaxed, Closes};
-ghost use Rattle.summary.specs.Kinds.{RuleEdges, KindFits, endOf};
+ghost use Rattle.summary.specs.Kinds.{RuleEdges, KindFits, partEnd};
 
 // Passes until one changes nothing.
 pub fn settle(table: &mut [u16], kind: Kind, dests: usize, g: usize, th: Thread)
     requires { ⌜
         (length (now table) ≡ size) × (8 ≤ dests) × (dests ≤ 12) × (g ≤ 4) × KindFits kind × ThreadFits g th
-        ⌝ ∗ ⌜ Counts (endOf kind) (now table) ⌝ }
+        ⌝ ∗ ⌜ Counts (partEnd kind) (now table) ⌝ }
     ensures { λ r. ⌜ Closes (Rules th (RuleEdges kind dests g)) (now (table .entry)) (now (table .exit)) ⌝ }
 {
     let mut changes = 1;
@@ -30,7 +30,7 @@ pub fn settle(table: &mut [u16], kind: Kind, dests: usize, g: usize, th: Thread)
 pub fn pass(table: &mut [u16], kind: Kind, dests: usize, g: usize, th: Thread) -> u64
     requires { ⌜
         (length (now table) ≡ size) × (8 ≤ dests) × (dests ≤ 12) × (g ≤ 4) × KindFits kind × ThreadFits g th
-        ⌝ ∗ ⌜ Counts (endOf kind) (now table) ⌝ }
+        ⌝ ∗ ⌜ Counts (partEnd kind) (now table) ⌝ }
     ensures { λ x. ⌜ Relaxed (Rules th (RuleEdges kind dests g)) (now (table .entry)) (now (table .exit)) x × (x ≤ 1664 * 64) ⌝ }
 {
     let count = th.count;
@@ -47,7 +47,7 @@ pub fn pass(table: &mut [u16], kind: Kind, dests: usize, g: usize, th: Thread) -
 // The edges of one rule.
 fn relax(table: &mut [u16], kind: Kind, dests: usize, g: usize, r: Rule) -> u64
     requires { ⌜ (length (now table) ≡ size) × (8 ≤ dests) × (dests ≤ 12) × (g ≤ 4) × KindFits kind × RuleFits g r ⌝
-        ∗ ⌜ Counts (endOf kind) (now table) ⌝ }
+        ∗ ⌜ Counts (partEnd kind) (now table) ⌝ }
     ensures { λ x. ⌜ Relaxed (RuleEdges kind dests g r) (now (table .entry)) (now (table .exit)) x × (x ≤ 1664) ⌝ }
 {
     match kind {

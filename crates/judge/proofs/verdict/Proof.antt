@@ -46,7 +46,7 @@ to-any-requires : tie.Need-to-any-requires
 to-any-requires c κs =
     let pre = c .before .before .before .before .before .before .before .before .before .before .before .pre in (
       pre .0,
-      (search needs, (pre .1 .0, (pre .1 .1, (c .before .before .before .before .before .before .before .names .ensures (c .before .before .before .before .before .before .if1 .left), c .before .before .before .before .names2 .ensures (c .before .before .before .if2 .left))))),
+      (search needs, (pre .1 .0, (pre .1 .1, (c .before .before .before .before .before .before .before .names .ensures .0 (c .before .before .before .before .before .before .if1 .left), c .before .before .before .before .names2 .ensures .0 (c .before .before .before .if2 .left))))),
     )
 
 same-length-5 : tie.Need-same-length-5
