@@ -8,7 +8,7 @@ mod reference;
 use models::Family;
 use std::hint::black_box;
 use std::io::{IsTerminal, Write};
-use std::ops::Range;
+use std::ops::RangeInclusive;
 use std::time::Instant;
 
 // Best times of one call on one model, in nanoseconds.
@@ -33,13 +33,14 @@ struct Row {
 
 type Call = fn(&Case) -> Pair;
 
-// The calls, and which families with tops have a row: all for the judgement, and for each other call the dense ones with both.
-const CALLS: [(&str, Call, Range<usize>); 5] = [
-    ("judgement", judgement, 0..4),
-    ("line table", line_table, 1..2),
-    ("replay", replay, 1..2),
-    ("page", page, 1..2),
-    ("read", read, 1..2),
+// The calls, and which families with tops, and which with held rules, have a row: all for the judgement, and for each other call the
+// dense ones with some in both threads.
+const CALLS: [(&str, Call, RangeInclusive<usize>, RangeInclusive<usize>); 5] = [
+    ("judgement", judgement, 0..=3, 0..=5),
+    ("line table", line_table, 1..=1, 1..=1),
+    ("replay", replay, 1..=1, 1..=1),
+    ("page", page, 1..=1, 1..=1),
+    ("read", read, 1..=1, 1..=1),
 ];
 
 // Each row is timed in so many rounds, and the best counts: a machine that is busy for some seconds spoils one of them.
@@ -53,8 +54,9 @@ const HEAD: &str = "| Proved: median | worst | Unproved: median | worst | Ratio 
 fn main() {
     let fixed = models::fixed();
     let topped = models::topped();
-    let grown = GROWTH.map(|(k, rules)| models::random(&format!("K={k}, {rules}+{rules} rules"), 16, k, 16, rules));
-    for family in fixed.iter().chain(&topped).chain(&grown).chain(&models::untimed()) {
+    let held = models::held();
+    let grown = GROWTH.map(|(k, rules)| models::grown(k, rules));
+    for family in fixed.iter().chain(&topped).chain(&held).chain(&grown).chain(&models::untimed()) {
         for (i, record) in family.records.iter().enumerate() {
             if let Err(what) = compare::agree(record) {
                 eprintln!("error: {}, model {i}: {what}", family.name);
@@ -64,8 +66,8 @@ fn main() {
     }
 
     let mut rows = Vec::new();
-    for (name, call, with_tops) in CALLS {
-        let families = fixed.iter().chain(&topped[with_tops]);
+    for (name, call, with_tops, with_held) in CALLS {
+        let families = fixed.iter().chain(&topped[with_tops]).chain(&held[with_held]);
         rows.extend(families.map(|family| Row::new(format!("{name} | {}", family.name), call, family)));
     }
     let first = rows.len();

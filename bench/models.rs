@@ -8,17 +8,41 @@ pub struct Family {
 // A rule: before state and symbol, after state, new symbols.
 type Rule = (u8, u8, u8, Vec<u8>);
 
+// `held` marks the held rules of each thread, rule 0 in the lowest bit.
 struct Model {
     g: u8,
     k: u8,
     target: u8,
     tops: [Option<u8>; 2],
+    held: [u64; 2],
     first: [u8; 2],
     rules: [Vec<Rule>; 2],
 }
 
 // No top is named.
 const ANY: [Option<u8>; 2] = [None, None];
+
+// No rule is held.
+const FREE: [u64; 2] = [0, 0];
+
+// The threads that have something.
+type Threads = [bool; 2];
+
+const NEITHER: Threads = [false, false];
+const BOTH: Threads = [true, true];
+
+// What random models are like: G, K, and in each thread so many symbols and rules.
+#[derive(Clone, Copy)]
+struct Kind {
+    g: u8,
+    k: u8,
+    symbols: u8,
+    rules: usize,
+}
+
+const DENSE: Kind = Kind { g: 4, k: 3, symbols: 16, rules: 64 };
+const CROWDED: Kind = Kind { symbols: 6, ..DENSE };
+const SPARSE: Kind = Kind { rules: 12, ..DENSE };
 
 // A linear congruential generator; its high bits are the random ones.
 struct Random(u64);
@@ -29,20 +53,25 @@ impl Random {
         ((self.0 >> 33) % n as u64) as u8
     }
 
-    // Rules over so many symbols, with none, one or two new symbols alike often.
-    fn rules(&mut self, symbols: u8, count: usize) -> Vec<Rule> {
+    // Rules with none, one or two new symbols alike often.
+    fn rules(&mut self, Kind { g, symbols, rules, .. }: Kind) -> Vec<Rule> {
         let mut rule = || {
-            let (before, symbol, after) = (self.below(4), self.below(symbols), self.below(4));
+            let (before, symbol, after) = (self.below(g), self.below(symbols), self.below(g));
             let new = (0..self.below(3)).map(|_| self.below(symbols)).collect();
             (before, symbol, after, new)
         };
-        (0..count).map(|_| rule()).collect()
+        (0..rules).map(|_| rule()).collect()
     }
 
-    fn model(&mut self, k: u8, symbols: u8, count: usize) -> Model {
-        let rules = [self.rules(symbols, count), self.rules(symbols, count)];
-        let first = [self.below(symbols), self.below(symbols)];
-        Model { g: 4, k, target: 1 + self.below(3), tops: ANY, first, rules }
+    // The marks of so many rules, of which three in eight are held.
+    fn marks(&mut self, rules: usize) -> u64 {
+        (0..rules).filter(|_| self.below(8) < 3).fold(0, |marks, r| marks | 1 << r)
+    }
+
+    fn model(&mut self, kind: Kind) -> Model {
+        let rules = [self.rules(kind), self.rules(kind)];
+        let first = [self.below(kind.symbols), self.below(kind.symbols)];
+        Model { g: kind.g, k: kind.k, target: 1 + self.below(kind.g - 1), tops: ANY, held: FREE, first, rules }
     }
 }
 
@@ -75,17 +104,19 @@ impl Model {
         bytes
     }
 
-    // The target byte and, where a top is named, the second map and the tops.
+    // The target byte and, where a top is named or a rule is held, the second map, the tops and the marks.
     fn aim(&self) -> Vec<u8> {
-        let [a, b] = self.tops;
-        let map = a.is_some() as u8 + 2 * b.is_some() as u8;
+        let tops = self.tops.map(|top| top.into_iter().collect());
+        let marks = self.held.map(|marks| if marks == 0 { vec![] } else { marks.to_le_bytes().to_vec() });
+        let (mut map, mut fields): (u8, Vec<u8>) = (0, vec![]);
+        for (bit, field) in tops.iter().chain(&marks).enumerate() {
+            map |= u8::from(!field.is_empty()) << bit;
+            fields.extend(field);
+        }
         if map == 0 {
             return vec![self.target];
         }
-        let mut bytes = vec![self.target + 128, map];
-        bytes.extend(a);
-        bytes.extend(b);
-        bytes
+        [vec![self.target + 128, map], fields].concat()
     }
 }
 
@@ -93,18 +124,24 @@ fn family(name: &str, models: Vec<Model>) -> Family {
     Family { name: name.to_string(), records: models.iter().map(Model::record).collect() }
 }
 
-// Models with so many random rules in each thread, at G = 4.
-pub fn random(name: &str, models: usize, k: u8, symbols: u8, count: usize) -> Family {
-    named(name, models, k, symbols, count, [false, false])
+// Dense models at another K and with another number of rules in each thread.
+pub fn grown(k: u8, rules: usize) -> Family {
+    random(&format!("K={k}, {rules}+{rules} rules"), 16, Kind { k, rules, ..DENSE })
 }
 
-// The same with random tops in some threads. They are drawn apart and always for both, so that nothing else of the models changes, and
-// A's top is the same whether or not B has one.
-fn named(name: &str, models: usize, k: u8, symbols: u8, count: usize, threads: [bool; 2]) -> Family {
-    let (mut random, mut apart) = (Random(1), Random(2));
+// So many random models of a kind.
+fn random(name: &str, models: usize, kind: Kind) -> Family {
+    with(name, models, kind, NEITHER, NEITHER)
+}
+
+// The same with random tops in some threads, and random held rules in some. Each are drawn apart and always for both, so that nothing
+// else of the models changes, and A's are the same whether or not B has some.
+fn with(name: &str, models: usize, kind: Kind, tops: Threads, held: Threads) -> Family {
+    let (mut random, mut top, mut mark) = (Random(1), Random(2), Random(3));
     let model = |_| {
-        let tops = threads.map(|thread| Some(apart.below(symbols)).filter(|_| thread));
-        Model { tops, ..random.model(k, symbols, count) }
+        let tops = tops.map(|thread| Some(top.below(kind.symbols)).filter(|_| thread));
+        let held = held.map(|thread| mark.marks(kind.rules) * u64::from(thread));
+        Model { tops, held, ..random.model(kind) }
     };
     family(name, (0..models).map(model).collect())
 }
@@ -113,9 +150,9 @@ fn named(name: &str, models: usize, k: u8, symbols: u8, count: usize, threads: [
 pub fn fixed() -> Vec<Family> {
     vec![
         document(),
-        random("dense: 64+64 rules", 32, 3, 16, 64),
-        random("crowded: 64+64 rules, 6 symbols", 16, 3, 6, 64),
-        random("sparse: 12+12 rules", 32, 3, 16, 12),
+        random("dense: 64+64 rules", 32, DENSE),
+        random("crowded: 64+64 rules, 6 symbols", 16, CROWDED),
+        random("sparse: 12+12 rules", 32, SPARSE),
         family("doubling", vec![doubled(10, 1), doubled(11, 1), doubled(10, 3), doubled(11, 3), mirrored(9), mirrored(10)]),
         family("found at 4,095 steps", vec![longest(1), longest(2), longest(3)]),
     ]
@@ -124,18 +161,40 @@ pub fn fixed() -> Vec<Family> {
 // Families of the first table with tops, which have rows of their own.
 pub fn topped() -> Vec<Family> {
     vec![
-        named("dense, a top in A", 32, 3, 16, 64, [true, false]),
-        named("dense, tops in A and B", 32, 3, 16, 64, [true, true]),
-        named("crowded, tops in A and B", 16, 3, 6, 64, [true, true]),
-        named("sparse, tops in A and B", 32, 3, 16, 12, [true, true]),
+        with("dense, a top in A", 32, DENSE, [true, false], NEITHER),
+        with("dense, tops in A and B", 32, DENSE, BOTH, NEITHER),
+        with("crowded, tops in A and B", 16, CROWDED, BOTH, NEITHER),
+        with("sparse, tops in A and B", 32, SPARSE, BOTH, NEITHER),
     ]
 }
 
-// Models with tops that are compared and not timed: at each K, and with few symbols, so that most are Found.
+// Families of the first table with held rules, which have rows of their own.
+pub fn held() -> Vec<Family> {
+    vec![
+        with("dense, held rules in A", 32, DENSE, NEITHER, [true, false]),
+        with("dense, held rules in A and B", 32, DENSE, NEITHER, BOTH),
+        with("crowded, held rules in A and B", 16, CROWDED, NEITHER, BOTH),
+        with("sparse, held rules in A and B", 32, SPARSE, NEITHER, BOTH),
+        with("dense, tops and held rules in A and B", 32, DENSE, BOTH, BOTH),
+        with("crowded, tops and held rules in A and B", 16, CROWDED, BOTH, BOTH),
+    ]
+}
+
+// Models with tops, with held rules and with both that are compared and not timed: at each K, with fewer states at K = 3, and with few
+// symbols, so that most are Found.
 pub fn untimed() -> Vec<Family> {
-    let choices = [[true, false], [false, true], [true, true]];
-    let family = |k: u8, threads: [bool; 2]| named(&format!("untimed, tops at K={k}"), 32, k, 4, 32, threads);
-    (1..=3).flat_map(|k| choices.map(|threads| family(k, threads))).collect()
+    let choices = [NEITHER, [true, false], [false, true], BOTH];
+    let mut families = vec![];
+    for (g, k) in [(4, 1), (4, 2), (4, 3), (3, 3), (2, 3)] {
+        let kind = Kind { g, k, symbols: 4, rules: 32 };
+        for tops in choices {
+            for held in choices {
+                let name = format!("untimed, G={g}, K={k}, tops in {tops:?}, held rules in {held:?}");
+                families.push(with(&name, 16, kind, tops, held));
+            }
+        }
+    }
+    families
 }
 
 // One; Two at K = 2 and at K = 1; Two without A's first rule at K = 1, 2, 3; target equal to start.
@@ -168,7 +227,7 @@ fn double(state: u8, end: u8) -> Vec<Rule> {
 fn doubled(top: u8, k: u8) -> Model {
     let mut a = double(0, 12);
     a.extend([(0, 12, 0, vec![top, 13]), (0, 13, 1, vec![])]);
-    Model { g: 2, k, target: 1, tops: ANY, first: [12, 0], rules: [a, vec![]] }
+    Model { g: 2, k, target: 1, tops: ANY, held: FREE, first: [12, 0], rules: [a, vec![]] }
 }
 
 // Both threads double, by rules in the order that the search likes least: A up to state 1, B from there to the target.
@@ -179,7 +238,7 @@ fn mirrored(top: u8) -> Model {
         rules.reverse();
         rules
     };
-    Model { g: 4, k: 3, target: 3, tops: ANY, first: [12, 12], rules: [thread(0, 1), thread(1, 3)] }
+    Model { g: 4, k: 3, target: 3, tops: ANY, held: FREE, first: [12, 12], rules: [thread(0, 1), thread(1, 3)] }
 }
 
 // Eleven pushes one after another, each of which takes twice the steps of the one after it, and a last step: 4,095.
@@ -187,5 +246,5 @@ fn longest(k: u8) -> Model {
     let mut a: Vec<Rule> = (0..3).flat_map(|g| double(g, 11)).collect();
     a.extend((0..11).map(|n| (n % 3, 11 + n / 3, (n + 1) % 3, vec![10 - n, 11 + (n + 1) / 3])));
     a.push((2, 14, 3, vec![]));
-    Model { g: 4, k, target: 3, tops: ANY, first: [11, 0], rules: [a, vec![]] }
+    Model { g: 4, k, target: 3, tops: ANY, held: FREE, first: [11, 0], rules: [a, vec![]] }
 }

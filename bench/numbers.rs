@@ -1,5 +1,6 @@
 // The numbers that the calls answer: a kind in the low byte, and what it carries from bit 16 on. A refusal's kind is its own number.
 pub const DONE: u64 = 0;
+pub const HELD: u64 = 12;
 pub const CLEAR: u64 = 33;
 pub const LONG: u64 = 34;
 pub const FOUND: u64 = 35;

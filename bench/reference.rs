@@ -16,11 +16,13 @@ pub enum Right {
     Push(usize, usize),
 }
 
+// No turn ends right after a rule that is `held`.
 #[derive(Clone, Copy)]
 pub struct Rule {
     pub before: usize,
     pub symbol: usize,
     pub after: usize,
+    pub held: bool,
     pub right: Right,
 }
 

@@ -8,9 +8,13 @@
  * A record may name the symbol that tops A's stack at the target, B's, or both. A run reaches the target if it ends with the target state
  * under the tops that are named; an empty stack has no top.
  *
+ * A record may also mark rules of A and of B as held, by eight bytes for each thread: bit r mod 8 of byte r div 8, the lowest bit being
+ * bit 0, marks rule r. No turn ends right after a held step, and so no run does: the target counts only where a turn may end. A turn
+ * without steps may always end.
+ *
  * Each slice is a pointer and a length. The pointer is never NULL, even where the length is 0. While a call runs, nothing else
  * writes to its slices, and no store overlaps another slice of the same call. A call keeps no pointer, allocates nothing and has
- * no state of its own, so calls may run side by side. The deepest models that we know take less than 300 KB of stack: give a call
+ * no state of its own, so calls may run side by side. The deepest models that we know take less than 600 KB of stack: give a call
  * 2 MB.
  *
  * Link target/staticlib/libffi.a, which `rt staticlib ffi` writes. */
@@ -25,7 +29,7 @@ extern "C" {
 #endif
 
 /* Sizes that are enough for every model. */
-#define TURNCHECK_RECORD_BYTES 652    /* the longest record */
+#define TURNCHECK_RECORD_BYTES 668    /* the longest record */
 #define TURNCHECK_LINES_BYTES 683     /* the largest line table: 5,460 bits, of a model with G = 4 and K = 3 */
 #define TURNCHECK_SCHEDULE_BYTES 8190 /* the longest schedule: 4,095 steps; what turncheck_judge asks for */
 #define TURNCHECK_PAGE_BYTES 299008   /* the longest page, that of 4,095 steps: 73 bytes for each step and 73 for the foot line */
@@ -41,7 +45,9 @@ enum turncheck_refusal {
     TURNCHECK_REFUSED_STORE_TOO_SMALL = 7, /* a store is too small */
     TURNCHECK_REFUSED_SCHEDULE_SIZE = 8,   /* the schedule's length is odd or above 8,190 bytes */
     TURNCHECK_REFUSED_STEP_TURN = 9,       /* a step's turn is not one of the 2K, or below that of the step before */
-    TURNCHECK_REFUSED_STEP_RULE = 10       /* a step's rule is not in the list, or does not apply */
+    TURNCHECK_REFUSED_STEP_RULE = 10,      /* a step's rule is not in the list, or does not apply */
+    TURNCHECK_REFUSED_MARK_RANGE = 11,     /* a rule number that the thread's list lacks is marked as held */
+    TURNCHECK_REFUSED_STEP_HELD = 12       /* the schedule leaves a turn after a held step, or ends after one */
 };
 
 /* What a call answers where it does not refuse. */
@@ -67,29 +73,29 @@ enum turncheck_kind {
 #define TURNCHECK_IS_REFUSED(number) (TURNCHECK_KIND(number) >= 1 && TURNCHECK_KIND(number) <= 31)
 
 /* What a number of the right kind carries. */
-#define TURNCHECK_LENGTH(number) TURNCHECK_FIELD1(number) /* TURNCHECK_WRITTEN, TURNCHECK_TAKEN: a record's length, at most 652 */
+#define TURNCHECK_LENGTH(number) TURNCHECK_FIELD1(number) /* TURNCHECK_WRITTEN, TURNCHECK_TAKEN: a record's length, at most 668 */
 #define TURNCHECK_STEPS(number) TURNCHECK_FIELD1(number)  /* TURNCHECK_FOUND: steps, at most 4,095 */
 #define TURNCHECK_STATE(number) TURNCHECK_FIELD1(number)  /* TURNCHECK_STOPPED, TURNCHECK_REACHED: a state, at most 3 */
 #define TURNCHECK_PAGE_LENGTH(number) ((size_t)((number) >> 16 & 0xFFFFFFFF)) /* TURNCHECK_PAGED: at most 299,008 */
 
-/* Reads a record: TURNCHECK_DONE, or refusal 1 to 6. */
+/* Reads a record: TURNCHECK_DONE, or refusal 1 to 6 or 11. */
 uint64_t turncheck_read(const uint8_t *record, size_t record_size);
 
 /* Reads the first record of a tray, which is records one after another: TURNCHECK_TAKEN with the record's length, TURNCHECK_NONE for
- * an empty tray, or refusal 1 to 5. So many bytes are a record by themselves, which every other call takes; go on with the tray
+ * an empty tray, or refusal 1 to 5 or 11. So many bytes are a record by themselves, which every other call takes; go on with the tray
  * behind them, which are no fault of this record. A refused record has no length, so nothing behind it can be read. */
 uint64_t turncheck_first(const uint8_t *tray, size_t tray_size);
 
 /* Reads a record and writes its model again, to the front of the store; the bytes beyond keep their value. The bytes are those of
- * the record. Answers TURNCHECK_WRITTEN with how many they are, or refusal 1 to 7. */
+ * the record. Answers TURNCHECK_WRITTEN with how many they are, or refusal 1 to 7 or 11. */
 uint64_t turncheck_write(const uint8_t *record, size_t record_size, uint8_t *store, size_t store_size);
 
 /* Fills the line table of a record's model: bit p, in byte p div 8, lowest bit first, stands exactly if some run ends its turns
  * along the line at place p. Spare bits of the table's last byte are 0; the bytes beyond keep their value.
- * Answers TURNCHECK_DONE, or refusal 1 to 7. */
+ * Answers TURNCHECK_DONE, or refusal 1 to 7 or 11. */
 uint64_t turncheck_lines(const uint8_t *record, size_t record_size, uint8_t *lines, size_t lines_size);
 
-/* Judges a record's model: TURNCHECK_CLEAR, TURNCHECK_LONG, or TURNCHECK_FOUND with the number of steps; or refusal 1 to 7.
+/* Judges a record's model: TURNCHECK_CLEAR, TURNCHECK_LONG, or TURNCHECK_FOUND with the number of steps; or refusal 1 to 7 or 11.
  * Each verdict fills the line table as turncheck_lines does. Found writes a shortest schedule to the front of the schedule store,
  * two bytes a step: the turn, and the rule's number in its thread's list, from 0. All other bytes keep their value. The schedule
  * store has at least TURNCHECK_SCHEDULE_BYTES, whatever the verdict. */
@@ -97,12 +103,12 @@ uint64_t turncheck_judge(const uint8_t *record, size_t record_size, uint8_t *lin
                          size_t schedule_size);
 
 /* Walks a schedule of a record's model from its start: TURNCHECK_STOPPED or TURNCHECK_REACHED with the last shared state,
- * or refusal 1 to 6 or 8 to 10. */
+ * or refusal 1 to 6 or 8 to 12. */
 uint64_t turncheck_replay(const uint8_t *record, size_t record_size, const uint8_t *schedule, size_t schedule_size);
 
 /* Walks a schedule of a record's model as turncheck_replay does, and writes its page to the front of the store, in ASCII: a line of 72
  * characters and a line feed for each step, with the shared state and both stacks after it, and a foot line. The bytes beyond keep their
- * value. Answers TURNCHECK_PAGED with how many bytes the page has, 73 for each step and 73 more; or refusal 1 to 6 or 8 to 10, or then 7
+ * value. Answers TURNCHECK_PAGED with how many bytes the page has, 73 for each step and 73 more; or refusal 1 to 6 or 8 to 12, or then 7
  * for a store with fewer. */
 uint64_t turncheck_page(const uint8_t *record, size_t record_size, const uint8_t *schedule, size_t schedule_size, uint8_t *store,
                         size_t store_size);

@@ -1,5 +1,5 @@
 // The least steps of each thread along each full line.
-use super::table::{joined, Table, FLOOR, NAMED, STAYS};
+use super::table::{gone, joined, Table, FLOOR, NAMED, STAYS};
 use super::{Model, Thread};
 
 // One thread of a model and its part in a line: A moves in even turns, B in odd ones. `top` is the one its table is for.
@@ -81,7 +81,7 @@ impl Part<'_> {
         let count = g.pow(2 * self.n as u32 + 2);
         t.close_plain(g, self.top, self.thread);
         if self.n >= 1 {
-            t.close_first(g, self.thread);
+            t.close_first(self.thread);
         }
         if self.n < 2 {
             let all = |stays| (0..count).map(|v| self.line_cost(t, stays, v)).collect();
@@ -90,7 +90,7 @@ impl Part<'_> {
         let mut costs = Costs { any: vec![0; count], named: self.top.map(|_| vec![0; count]) };
         for o in 0..g {
             for i in 0..g {
-                t.close_second(g, o, i, self.thread);
+                t.close_second(o, i, self.thread);
                 self.slice(t, STAYS, o, i, &mut costs.any);
                 if let Some(named) = &mut costs.named {
                     self.slice(t, NAMED, o, i, named);
@@ -121,10 +121,10 @@ impl Part<'_> {
         let symbol = self.thread.first;
         let mut best = t.entry(self.n, from, symbol, stays + to, lane_to(self.n));
         for j in 0..=self.n {
-            for s in 0..self.g {
-                let gone = t.entry(j, from, symbol, s, lane_to(j));
-                let rest = t.entry(self.n - j, s, FLOOR, stays + to, lane_to(self.n));
-                best = joined(gone, rest, best);
+            for p in 0..t.controls {
+                let first = t.entry(j, from, symbol, gone(p), lane_to(j));
+                let rest = t.entry(self.n - j, p, FLOOR, stays + to, lane_to(self.n));
+                best = joined(first, rest, best);
             }
         }
         best

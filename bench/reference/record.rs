@@ -20,14 +20,19 @@ pub fn read(bytes: &[u8]) -> Result<Model, u64> {
     if g <= target % 128 {
         return Err(3);
     }
-    // a second map, of the tops
-    let tops = r.field(target >= 128, 3, 0, 4, 0)?;
-    let top_a = r.top(tops & 1 == 1)?;
-    let top_b = r.top(tops & 2 == 2)?;
+    // a second map, of the tops and of the marks of held rules
+    let second = r.field(target >= 128, 3, 0, 16, 0)?;
+    let top_a = r.top(second & 1 != 0)?;
+    let top_b = r.top(second & 2 != 0)?;
+    let marks_a = r.marks(second & 4 != 0)?;
+    let marks_b = r.marks(second & 8 != 0)?;
     let a = r.field(bit(4), 3, 0, 16, 0)?;
     let b = r.field(bit(5), 3, 0, 16, 0)?;
-    let rules_a = r.rules(bit(6), g)?;
-    let rules_b = r.rules(bit(7), g)?;
+    let rules_a = r.rules(bit(6), g, marks_a)?;
+    let rules_b = r.rules(bit(7), g, marks_b)?;
+    if beyond(marks_a, &rules_a) || beyond(marks_b, &rules_b) {
+        return Err(11);
+    }
     if r.at < bytes.len() {
         return Err(6);
     }
@@ -39,6 +44,11 @@ pub fn read(bytes: &[u8]) -> Result<Model, u64> {
         a: Thread { first: a as usize, top: top_a, rules: rules_a },
         b: Thread { first: b as usize, top: top_b, rules: rules_b },
     })
+}
+
+// Whether a mark stands for a rule number that the list lacks.
+fn beyond(marks: u64, rules: &[Rule]) -> bool {
+    marks.checked_shr(rules.len() as u32).is_some_and(|rest| rest != 0)
 }
 
 impl Reader<'_> {
@@ -74,12 +84,25 @@ impl Reader<'_> {
         self.ranged(3, 0, 16).map(|top| Some(top as usize))
     }
 
-    fn rules(&mut self, present: bool, g: u8) -> Result<Vec<Rule>, u64> {
-        let count = self.field(present, 4, 0, 65, 0)?;
-        (0..count).map(|_| self.rule(g)).collect()
+    // The marks of a thread's held rules, rule 0 in the lowest bit: eight bytes, of which some is not 0.
+    fn marks(&mut self, present: bool) -> Result<u64, u64> {
+        if !present {
+            return Ok(0);
+        }
+        let bytes = self.bytes[self.at..].first_chunk().ok_or(1u64)?;
+        self.at += bytes.len();
+        match u64::from_le_bytes(*bytes) {
+            0 => Err(5),
+            marks => Ok(marks),
+        }
     }
 
-    fn rule(&mut self, g: u8) -> Result<Rule, u64> {
+    fn rules(&mut self, present: bool, g: u8, marks: u64) -> Result<Vec<Rule>, u64> {
+        let count = self.field(present, 4, 0, 65, 0)?;
+        (0..count).map(|r| self.rule(g, marks >> r & 1 == 1)).collect()
+    }
+
+    fn rule(&mut self, g: u8, held: bool) -> Result<Rule, u64> {
         let map = self.byte()?;
         if map > 7 || map & 6 == 4 {
             return Err(4);
@@ -95,7 +118,7 @@ impl Reader<'_> {
             1 => Right::Swap(self.symbol()?),
             _ => Right::Push(self.symbol()?, self.symbol()?),
         };
-        Ok(Rule { before: before as usize, symbol: (pair % 16) as usize, after: after as usize, right })
+        Ok(Rule { before: before as usize, symbol: (pair % 16) as usize, after: after as usize, held, right })
     }
 
     fn symbol(&mut self) -> Result<usize, u64> {

@@ -1,34 +1,55 @@
 // Least step counts of one thread, by the turn ends inside a stretch: none, one (16 lanes), or two of which the first is fixed.
-use super::{Right, Thread};
+use super::{Right, Rule, Thread};
 
 pub const LONG: u16 = 4096;
 pub const NONE: u16 = 4097;
 pub const FLOOR: usize = 16;
 
-// The first destination of staying under any top, and under the named one.
+// The first destination of staying under any top, and under the named one, and where those of staying end.
 pub const STAYS: usize = 4;
 pub const NAMED: usize = 8;
+pub const STAYS_END: usize = 12;
 
-const FIRST: usize = 4 * 17 * 12;
-const SECOND: usize = FIRST + 16 * FIRST;
-const SIZE: usize = SECOND + 16 * FIRST;
+// The cells of a control within one turn.
+const CONTROL: usize = 17 * 16;
 // A cell that is 0, for edges that have one part.
 const REST: usize = 4;
 
-// `dests` of the 12 destinations are in use: 8, or 12 where a top is named.
+// Its controls are the states, and from 4 on the states after a held step, which only a thread with held rules has. Of the 16
+// destinations the first `dests` are in use, and those of staying end at `stays`: at 8, or at 12 where a top is named. The parts with
+// one and with two turn ends inside start at `first` and at `second`, and the last one ends at `end`.
 pub struct Table {
     cells: Vec<u16>,
+    pub controls: usize,
+    stays: usize,
     dests: usize,
+    first: usize,
+    second: usize,
+    end: usize,
 }
 
-// The cell from a state with a symbol on top to a destination: 0 to 3 gone at a state, 4 to 7 still there, 8 to 11 still there
-// under the named top.
-fn place(g: usize, s: usize, d: usize) -> usize {
-    (g * 17 + s) * 12 + d
+// The cell from a control with a symbol on top to a destination: 0 to 3 gone at a state, 4 to 7 still there, 8 to 11 still there
+// under the named top, 12 to 15 gone at a state after a held step.
+fn place(p: usize, s: usize, d: usize) -> usize {
+    (p * 17 + s) * 16 + d
 }
 
-fn lane_place(base: usize, g: usize, s: usize, d: usize) -> usize {
-    base + place(g, s, d) * 16
+fn lane_place(base: usize, p: usize, s: usize, d: usize) -> usize {
+    base + place(p, s, d) * 16
+}
+
+// The destination of being gone at a control.
+pub fn gone(p: usize) -> usize {
+    if p < 4 {
+        p
+    } else {
+        p + 8
+    }
+}
+
+// The control that a rule leads to.
+pub fn led_to(rule: &Rule) -> usize {
+    rule.after + 4 * usize::from(rule.held)
 }
 
 // The lesser of a count and of two stretches one after the other.
@@ -53,59 +74,75 @@ fn offer(to: &mut [u16], from: &[u16], w: u16) -> bool {
 
 impl Table {
     pub fn new() -> Table {
-        Table { cells: vec![NONE; SIZE], dests: 8 }
+        Table { cells: Vec::new(), controls: 0, stays: 0, dests: 0, first: 0, second: 0, end: 0 }
+    }
+
+    // The controls at which a turn may end and a symbol may stay: not those after a held step.
+    fn free(&self) -> usize {
+        self.controls.min(4)
+    }
+
+    // The controls that a rule acts from: those that have its before state.
+    fn before(&self, rule: &Rule) -> impl Iterator<Item = usize> {
+        (rule.before..self.controls).step_by(4)
     }
 
     // The entry of a stretch with `gap` turn ends inside, the last of them in this lane.
-    pub fn entry(&self, gap: usize, g: usize, s: usize, d: usize, lane: usize) -> u16 {
+    pub fn entry(&self, gap: usize, p: usize, s: usize, d: usize, lane: usize) -> u16 {
         match gap {
-            0 => self.cells[place(g, s, d)],
-            1 => self.cells[lane_place(FIRST, g, s, d) + lane],
-            _ => self.cells[lane_place(SECOND, g, s, d) + lane],
+            0 => self.cells[place(p, s, d)],
+            1 => self.cells[lane_place(self.first, p, s, d) + lane],
+            _ => self.cells[lane_place(self.second, p, s, d) + lane],
         }
     }
 
-    // Stretches within one turn. The parts that are closed after it are for the same top.
-    pub fn close_plain(&mut self, n: usize, top: Option<usize>, th: &Thread) {
-        self.dests = if top.is_some() { 12 } else { 8 };
-        self.cells[..FIRST].fill(NONE);
-        for g in 0..4 {
+    // Stretches within one turn. The parts that are closed after it are for the same top and thread.
+    pub fn close_plain(&mut self, g: usize, top: Option<usize>, th: &Thread) {
+        self.controls = if th.rules.iter().any(|rule| rule.held) { 4 + g } else { g };
+        self.stays = if top.is_some() { STAYS_END } else { NAMED };
+        self.dests = if self.controls > 4 { 16 } else { self.stays };
+        self.first = CONTROL * self.controls;
+        self.second = 17 * self.first;
+        self.end = 33 * self.first;
+        if self.cells.len() < self.end {
+            self.cells.resize(self.end, NONE);
+        }
+        self.cells[..self.first].fill(NONE);
+        for p in 0..self.free() {
             for s in 0..17 {
-                self.cells[place(g, s, STAYS + g)] = 0;
+                self.cells[place(p, s, STAYS + p)] = 0;
+            }
+            if let Some(s) = top {
+                self.cells[place(p, s, NAMED + p)] = 0;
             }
         }
-        if let Some(s) = top {
-            for g in 0..n {
-                self.cells[place(g, s, NAMED + g)] = 0;
-            }
-        }
-        while self.plain_pass(n, th) {}
+        while self.plain_pass(th) {}
     }
 
     // Stretches with one turn end inside.
-    pub fn close_first(&mut self, n: usize, th: &Thread) {
-        self.cells[FIRST..SECOND].fill(NONE);
-        for o in 0..n {
-            for i in 0..n {
+    pub fn close_first(&mut self, th: &Thread) {
+        self.cells[self.first..self.second].fill(NONE);
+        for o in 0..self.free() {
+            for i in 0..self.free() {
                 for s in 0..17 {
                     for d in 0..self.dests {
-                        self.cells[lane_place(FIRST, o, s, d) + o * 4 + i] = self.cells[place(i, s, d)];
+                        self.cells[lane_place(self.first, o, s, d) + o * 4 + i] = self.cells[place(i, s, d)];
                     }
                 }
             }
         }
-        while self.lane_pass(FIRST, n, th) {}
+        while self.lane_pass(self.first, th) {}
     }
 
     // Stretches with two turn ends inside of which the first is (o, i).
-    pub fn close_second(&mut self, n: usize, o: usize, i: usize, th: &Thread) {
-        self.cells[SECOND..].fill(NONE);
+    pub fn close_second(&mut self, o: usize, i: usize, th: &Thread) {
+        self.cells[self.second..self.end].fill(NONE);
         for s in 0..17 {
-            let from = lane_place(FIRST, i, s, 0);
-            self.cells.copy_within(from..from + 16 * self.dests, lane_place(SECOND, o, s, 0));
+            let from = lane_place(self.first, i, s, 0);
+            self.cells.copy_within(from..from + 16 * self.dests, lane_place(self.second, o, s, 0));
         }
-        self.cross_pass(o * 4 + i, n, th);
-        while self.lane_pass(SECOND, n, th) {}
+        self.cross_pass(o * 4 + i, th);
+        while self.lane_pass(self.second, th) {}
     }
 
     // For each x below n: cell k + x is at most one more than cells a and b + x together. Whether a cell has fallen.
@@ -121,57 +158,73 @@ impl Table {
         offer(to, from, x + 1)
     }
 
-    fn plain_pass(&mut self, n: usize, th: &Thread) -> bool {
-        let dests = self.dests;
+    fn plain_pass(&mut self, th: &Thread) -> bool {
         let mut changed = false;
         for r in &th.rules {
-            let to = place(r.before, r.symbol, 0);
-            match r.right {
-                Right::Remove => changed |= self.row(to + r.after, REST, REST, 1),
-                Right::Swap(a) => changed |= self.row(to, REST, place(r.after, a, 0), dests),
-                Right::Push(a, b) => {
-                    for q in 0..n {
-                        changed |= self.row(to, place(r.after, a, q), place(q, b, 0), dests);
-                    }
-                    changed |= self.row(to + 4, REST, place(r.after, a, 4), dests - 4);
-                }
+            for p in self.before(r) {
+                changed |= self.plain_rule(p, led_to(r), r);
             }
         }
         changed
     }
 
-    // The turn end is inside what comes of the second symbol of a pair, or of the first.
-    fn lane_pass(&mut self, base: usize, n: usize, th: &Thread) -> bool {
-        let dests = self.dests;
+    // The edges of a rule from control p to control h.
+    fn plain_rule(&mut self, p: usize, h: usize, r: &Rule) -> bool {
+        let to = place(p, r.symbol, 0);
+        match r.right {
+            Right::Remove => self.row(to + gone(h), REST, REST, 1),
+            Right::Swap(a) => self.row(to, REST, place(h, a, 0), self.dests),
+            Right::Push(a, b) => {
+                let mut changed = false;
+                for q in 0..self.controls {
+                    changed |= self.row(to, place(h, a, gone(q)), place(q, b, 0), self.dests);
+                }
+                changed | self.row(to + STAYS, REST, place(h, a, STAYS), self.stays - STAYS)
+            }
+        }
+    }
+
+    fn lane_pass(&mut self, base: usize, th: &Thread) -> bool {
         let mut changed = false;
         for r in &th.rules {
-            let to = lane_place(base, r.before, r.symbol, 0);
-            match r.right {
-                Right::Remove => {}
-                Right::Swap(a) => changed |= self.row(to, REST, lane_place(base, r.after, a, 0), 16 * dests),
-                Right::Push(a, b) => {
-                    for q in 0..n {
-                        changed |= self.row(to, place(r.after, a, q), lane_place(base, q, b, 0), 16 * dests);
-                        let from = lane_place(base, r.after, a, q);
-                        for d in 0..dests {
-                            changed |= self.row(to + 16 * d, place(q, b, d), from, 16);
-                        }
-                    }
-                    changed |= self.row(to + 64, REST, lane_place(base, r.after, a, 4), 16 * (dests - 4));
-                }
+            for p in self.before(r) {
+                changed |= self.lane_rule(base, p, led_to(r), r);
             }
         }
         changed
+    }
+
+    // The same with the turn end inside what comes of the second symbol of a pair, or of the first.
+    fn lane_rule(&mut self, base: usize, p: usize, h: usize, r: &Rule) -> bool {
+        let dests = self.dests;
+        let to = lane_place(base, p, r.symbol, 0);
+        match r.right {
+            Right::Remove => false,
+            Right::Swap(a) => self.row(to, REST, lane_place(base, h, a, 0), 16 * dests),
+            Right::Push(a, b) => {
+                let mut changed = false;
+                for q in 0..self.controls {
+                    changed |= self.row(to, place(h, a, gone(q)), lane_place(base, q, b, 0), 16 * dests);
+                    let from = lane_place(base, h, a, gone(q));
+                    for d in 0..dests {
+                        changed |= self.row(to + 16 * d, place(q, b, d), from, 16);
+                    }
+                }
+                let stays = 16 * (self.stays - STAYS);
+                changed | self.row(to + 16 * STAYS, REST, lane_place(base, h, a, STAYS), stays)
+            }
+        }
     }
 
     // One turn end inside what comes of each symbol of a pair, the first one's in lane l.
-    fn cross_pass(&mut self, l: usize, n: usize, th: &Thread) {
+    fn cross_pass(&mut self, l: usize, th: &Thread) {
         for r in &th.rules {
-            if let Right::Push(a, b) = r.right {
-                for q in 0..n {
-                    let first = lane_place(FIRST, r.after, a, q) + l;
-                    let to = lane_place(SECOND, r.before, r.symbol, 0);
-                    self.row(to, first, lane_place(FIRST, q, b, 0), 16 * self.dests);
+            let Right::Push(a, b) = r.right else { continue };
+            for p in self.before(r) {
+                let to = lane_place(self.second, p, r.symbol, 0);
+                for q in 0..self.controls {
+                    let one = lane_place(self.first, led_to(r), a, gone(q)) + l;
+                    self.row(to, one, lane_place(self.first, q, b, 0), 16 * self.dests);
                 }
             }
         }

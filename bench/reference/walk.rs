@@ -1,9 +1,11 @@
 // The walk of a schedule from the start.
 use super::{Model, Right};
 
-// Where a walk is: the turn of its last step and the shared state. The stacks are apart from it, bottom first.
+// Where a walk is: the turn of its last step and whether that step was held, and the shared state. The stacks are apart from it,
+// bottom first.
 pub struct Walk {
     turn: usize,
+    held: bool,
     pub shared: usize,
 }
 
@@ -18,6 +20,9 @@ pub fn walk(m: &Model, schedule: &[u8]) -> Result<(usize, bool), u64> {
     for step in schedule.chunks_exact(2) {
         walk.step(m, step, &mut stacks)?;
     }
+    if walk.held {
+        return Err(12);
+    }
     let [a, b] = &stacks;
     Ok((walk.shared, walk.shared == m.target && has_top(m.a.top, a) && has_top(m.b.top, b)))
 }
@@ -29,7 +34,7 @@ fn has_top(top: Option<usize>, stack: &[usize]) -> bool {
 
 impl Walk {
     pub fn start(m: &Model) -> (Walk, Stacks) {
-        (Walk { turn: 0, shared: m.start }, [vec![m.a.first], vec![m.b.first]])
+        (Walk { turn: 0, held: false, shared: m.start }, [vec![m.a.first], vec![m.b.first]])
     }
 
     // Inline in both loops that call it, so that replay takes no longer than if it were alone.
@@ -38,6 +43,9 @@ impl Walk {
         let turn = step[0] as usize;
         if turn < self.turn || 2 * m.k <= turn {
             return Err(9);
+        }
+        if self.held && self.turn != turn {
+            return Err(12);
         }
         self.turn = turn;
         let thread = if turn % 2 == 0 { &m.a } else { &m.b };
@@ -53,6 +61,7 @@ impl Walk {
             Right::Push(a, b) => stack.extend([b, a]),
         }
         self.shared = rule.after;
+        self.held = rule.held;
         Ok(())
     }
 }

@@ -3,10 +3,13 @@
 //! Each call takes the bytes of a model record, or of a tray of them. A call that refuses changes no byte of any store.
 //! A record may name the symbol that tops A's stack at the target, B's, or both. A run reaches the target if it ends with the target
 //! state under the tops that are named; an empty stack has no top.
-//! The deepest models that we know take less than 300 KB of stack; a Rust thread has 2 MB by default.
+//! A record may also mark rules of A and of B as held, by eight bytes for each thread: bit r mod 8 of byte r div 8, the lowest bit being
+//! bit 0, marks rule r. No turn ends right after a held step, and so no run does: the target counts only where a turn may end. A turn
+//! without steps may always end.
+//! The deepest models that we know take less than 600 KB of stack; a Rust thread has 2 MB by default.
 
 /// The longest record.
-pub const RECORD_BYTES: usize = 652;
+pub const RECORD_BYTES: usize = 668;
 /// The largest line table: 5,460 bits, of a model with G = 4 and K = 3.
 pub const LINES_BYTES: usize = 683;
 /// The longest schedule, of 4,095 steps: what `judge` asks for, whatever the verdict.
@@ -37,6 +40,10 @@ pub enum Refusal {
     StepTurn = 9,
     /// A step's rule is not in the list, or does not apply.
     StepRule = 10,
+    /// A rule number that the thread's list lacks is marked as held.
+    MarkRange = 11,
+    /// The schedule leaves a turn after a held step, or ends after one.
+    StepHeld = 12,
 }
 
 /// A verdict on a model.
@@ -118,6 +125,8 @@ fn refusal(number: u64) -> Refusal {
         8 => Refusal::ScheduleSize,
         9 => Refusal::StepTurn,
         10 => Refusal::StepRule,
+        11 => Refusal::MarkRange,
+        12 => Refusal::StepHeld,
         _ => panic!("turncheck: the library answers {number:#x}, which this wrapper does not know"),
     }
 }

@@ -9,24 +9,25 @@ use lib.Dec.{T, leb, eqb}
 use lib.ListN.{length, getD}
 use Rattle.model.specs.declared.Model.{Model}
 use Rattle.model.specs.declared.Shared.{Shared}
+use Rattle.model.specs.Bits.{allZero}
 use Rattle.model.specs.Lines.{powers, digits}
 use Rattle.model.specs.Results.{refused, accepted, firstOf}
 use Rattle.model.specs.Rules.{applies}
 use Rattle.model.specs.Schedules.{stepsOf, mostSteps}
-use Rattle.model.specs.Valid.{Valid, headFault, rangeFault, topFault, symbolFault, rightFault, ruleFault, threadFault, faultOf}
+use Rattle.model.specs.Valid.{Valid, headFault, rangeFault, topFault, symbolFault, rightFault, ruleFault, threadFault, freeFrom, markFault, faultOf}
 use Rattle.model.specs.Verdict.{found, Judged}
-use Rattle.model.specs.Walk.{walk, stepFrom, fire, turnFits}
+use Rattle.model.specs.Walk.{walk, stepFrom, fire, turnFits, turnFree}
 use Rattle.model.proofs.Ranges.{valid-fits}
 use Rattle.model.proofs.Table.{every, at}
 use Rattle.model.proofs.Tests.{passed, both, equal, tests}
 use Rattle.model.proofs.Stores.{length-bytes}
-use Rattle.record.specs.Reader.{Read, readOf, parseFront, parseHead, parseByte, parseRanged, parseField, parseRight, parseRule, parseRuleList, parseRules, parseTarget, parseTop, parseSecond}
+use Rattle.record.specs.Reader.{Read, readOf, parseFront, parseHead, parseByte, parseRanged, parseField, parseRight, parseRule, parseRuleList, parseRules, parseTarget, parseTop, parseMarks, parseSecond, marksFault}
 use Rattle.replay.specs.declared.Replayed.{Replayed}
 use Rattle.replay.specs.declared.Replayed.the-variants as replayed
 use Rattle.replay.specs.Replay.{replayOf, sizeFits}
 use Rattle.replay.proofs.Accepts.{accepts}
 use Rattle.cases.specs.Cases.{cases}
-use Rattle.cases.specs.Claims.{Table, ungiven, given, Answer, Refused, Clear, Found, Case, Scheduled, Lined, ClaimsOf, Claims}
+use Rattle.cases.specs.Claims.{Table, ungiven, given, Answer, Refused, Clear, Found, Declined, Case, Scheduled, Lined, ClaimsOf, Claims}
 use Rattle.cases.proofs.Explored.{grow, explored, closed}
 use Rattle.cases.proofs.Abstracts.{Abstract, next}
 use Rattle.cases.proofs.Search.{finds}
@@ -42,6 +43,11 @@ abbrev reaches : Shared → Replayed → Bool
 reaches target (replayed.Accepted shared reached) = eqb (shared .0) (target .0) && reached
 reaches target (replayed.Refused n) = false
 
+-- Replay refuses by this number.
+abbrev declines : ℕ → Replayed → Bool
+declines n (replayed.Accepted shared reached) = false
+declines n (replayed.Refused k) = eqb k n
+
 -- The test of an answer for a model that was read.
 judges : Model → Answer → Bool
 judges m (Refused n) = false
@@ -50,12 +56,14 @@ judges m (Found n schedule t) =
     let set = explored m n in
     closed m n set && delays m n set && linesRight m set t && leb n mostSteps && eqb (length schedule) (2 * n) &&
     reaches (m .target) (replayOf m schedule)
+judges m (Declined schedule n) = declines n (replayOf m schedule)
 
 -- The test of an answer for what reading came to.
 comes : Read Model → Answer → Bool
 comes (refused k) (Refused n) = eqb k n
 comes (refused k) (Clear t) = false
 comes (refused k) (Found n schedule t) = false
+comes (refused k) (Declined schedule n) = false
 comes (accepted (m, [])) a = eqb (faultOf m) 0 && judges m a
 comes (accepted (m, b ∷ rest)) a = false
 
@@ -76,6 +84,11 @@ reached-target target (replayed.Accepted shared reached) h =
     let same : shared ≡ target = ap {B = Shared} (λ n. record { 0 = n }) (equal (shared .0) (target .0) .0 (w .0)) in
     rw (same, passed reached (w .1))
 reached-target target (replayed.Refused n) h = absurd h
+
+-- A schedule that is refused.
+declined : (n : ℕ) (r : Replayed) → T (declines n r) → r ≡ replayed.Refused n
+declined n (replayed.Accepted shared reached) h = absurd h
+declined n (replayed.Refused k) h = ap replayed.Refused (equal k n .0 h)
 
 -- The schedule: what replay accepts is one, with two bytes a step.
 scheduled : (m : Model) (n : ℕ) (schedule : List ℕ) → length schedule ≡ 2 * n → T (reaches (m .target) (replayOf m schedule))
@@ -110,6 +123,7 @@ judged bytes m e v (Found n schedule t) h =
     let shortest : Judged m (found n) =
     (w .0 .0 .1, record { schedule = s .0 .steps; reaches = s .0 .run; steps = s .0 .count; least = least }) in
     record { model = m; read = e; valid = v; holds = (shortest, s, lines-right m n set (c .0) t (w .0 .0 .0 .1)) }
+judged bytes m e v (Declined schedule n) h = record { model = m; read = e; valid = v; holds = declined n (replayOf m schedule) h }
 
 -- The record.
 come : (bytes : List ℕ) (r : Read Model) → readOf bytes ≡ r → (a : Answer) → T (comes r a) → ClaimsOf bytes a
@@ -117,6 +131,7 @@ unfolding comes
 come bytes (refused k) e (Refused n) h = e ∙ ap refused (equal k n .0 h)
 come bytes (refused k) e (Clear t) h = absurd h
 come bytes (refused k) e (Found n schedule t) h = absurd h
+come bytes (refused k) e (Declined schedule n) h = absurd h
 come bytes (accepted (m, [])) e a h =
     let w = both (eqb (faultOf m) 0) (judges m a) .0 h in judged bytes m e (equal (faultOf m) 0 .0 (w .0)) a (w .1)
 come bytes (accepted (m, b ∷ rest)) e a h = absurd h
@@ -127,7 +142,7 @@ unfolding holds
 claimed c t = come (c .bytes) (readOf (c .bytes)) refl (c .answer) t
 
 all-hold : T (every (λ i. holds) cases)
-unfolding cases holds comes judges readOf parseFront parseHead parseByte parseRanged parseField parseRight parseRule parseRuleList parseRules parseTarget parseTop parseSecond explored grow closed next avoids delays absent followed bitRight bitsRight drawn finds powers digits applies replayOf stepsOf sizeFits walk stepFrom fire turnFits faultOf headFault rangeFault topFault threadFault ruleFault rightFault symbolFault firstOf
+unfolding cases holds comes judges readOf parseFront parseHead parseByte parseRanged parseField parseRight parseRule parseRuleList parseRules parseTarget parseTop parseMarks parseSecond marksFault allZero explored grow closed next avoids delays absent followed bitRight bitsRight drawn finds powers digits applies replayOf stepsOf sizeFits walk stepFrom fire turnFits turnFree faultOf headFault rangeFault topFault threadFault ruleFault rightFault symbolFault markFault freeFrom firstOf
 all-hold = tt
 
 -- Every case of the table has its claims.

@@ -9,9 +9,10 @@ use native.Mathlib.Omega.{arith}
 use lib.Dec.{T, T-not, leb, ltb, eqb, ltb→lt}
 use lib.ListN.{length, replicate, length-replicate, drop-of-length-le}
 use Rattle.model.specs.declared.Model.{Model}
+use Rattle.model.specs.Bits.{bitAt}
 use Rattle.model.specs.Lines.{Line, powers, bits, value, position, digits}
 use Rattle.model.specs.Runs.{Reaches, Marked}
-use Rattle.model.specs.Tables.{bitAt, bytesFor, LineTable}
+use Rattle.model.specs.Tables.{bytesFor, LineTable}
 use Rattle.model.specs.Verdict.{clear, Judged, AtLeast}
 use Rattle.model.specs.Walk.{Stacks, startStacks, Step, hasTop, underTops, atTarget}
 use Rattle.model.proofs.Positions.{value-below, digits-value}
@@ -23,9 +24,9 @@ use Rattle.cases.proofs.Scans.{either, all, alike, alike-refl, below, a
 use Rattle.cases.proofs.Search.{finds, finds-run}
 use Rattle.cases.proofs.Shapes.{mayHave, may-have}
 
--- The shared state of an abstract configuration is the target's, and its stacks may have the tops that are named.
+-- A run may stop at an abstract configuration, its shared state is the target's, and its stacks may have the tops that are named.
 abbrev pub onTarget : Model → Abstract → Bool
-onTarget m c = eqb (c .shared) (m .target .0) && (mayHave (m .a .top) (c .a) && mayHave (m .b .top) (c .b))
+onTarget m c = not (c .held) && eqb (c .shared) (m .target .0) && (mayHave (m .a .top) (c .a) && mayHave (m .b .top) (c .b))
 
 -- No abstract configuration may be at the target ..
 unfoldable pub avoids : Model → List Abstract → Bool
@@ -41,7 +42,7 @@ absent set line = all (λ c. not (alike (c .line) line)) set
 
 -- A run along a line from the start is found, one with at most two steps more than it could have turn ends.
 unfoldable pub followed : Model → List ℕ → Bool
-followed m line = finds (2 * m .k + 2) m 0 (m .start .0) (startStacks m) line
+followed m line = finds (2 * m .k + 2) m 0 false (m .start .0) (startStacks m) line
 
 -- The bit of the line of n + 1 states whose value is v is right: where it stands a run is found, and where not the line is absent.
 unfoldable pub bitRight : Model → List Abstract → List ℕ → ℕ → ℕ → Bool
@@ -72,15 +73,16 @@ spared count true p h t =
     elim (either (ltb p count) false t) [ inl z ↦ absurd (omega (arith, ltb→lt p count z)) | inr z ↦ absurd z ]
 
 -- A run that is at the target is described only by abstract configurations that may be.
-on-target : (m : Model) (c : Abstract) {line : List ℕ} {n q : ℕ} {σ : Stacks} → Describes c line n q σ
+on-target : (m : Model) (c : Abstract) {line : List ℕ} {n q : ℕ} {σ : Stacks} → Describes c line n false q σ
     → T (atTarget m q σ) → T (onTarget m c)
 on-target m c {q = q} {σ = σ} d h =
     let w = both (eqb q (m .target .0)) (underTops m σ) .0 h in
     let u = both (hasTop (m .a .top) (σ .a)) (hasTop (m .b .top) (σ .b)) .0 (w .1) in
     let a = may-have (m .a .top) (c .a) (σ .a) (d .a) (u .0) in
     let b = may-have (m .b .top) (c .b) (σ .b) (d .b) (u .1) in
-    both (eqb (c .shared) (m .target .0)) (mayHave (m .a .top) (c .a) && mayHave (m .b .top) (c .b)) .1
-    (rw (d .shared) (w .0), both (mayHave (m .a .top) (c .a)) (mayHave (m .b .top) (c .b)) .1 (a, b))
+    rw (d .held, d .shared)
+    (both (eqb q (m .target .0)) (mayHave (m .a .top) (c .a) && mayHave (m .b .top) (c .b)) .1
+    (w .0, both (mayHave (m .a .top) (c .a)) (mayHave (m .b .top) (c .b)) .1 (a, b)))
 
 module _ (m : Model) (limit : ℕ) (set : List Abstract) (t : T (closed m limit set)) where
   -- A run that reaches the target is at an abstract configuration that may be there, and that passes a test which all of the set pass.
@@ -123,7 +125,7 @@ module _ (m : Model) (limit : ℕ) (set : List Abstract) (t : T (closed m limit 
       let one = at-below (m .g ^ suc n) (bitRight m set store n) all (value (m .g) line) (value-below (m .g) line (l .states)) in
       decided (bitAt store (position (m .g) line)) (followed m line) (absent set line)
       (rw (digits-value (m .g) line (l .states)) at one)
-      (finds-run (2 * m .k + 2) m 0 (m .start .0) (startStacks m) line)
+      (finds-run (2 * m .k + 2) m 0 false (m .start .0) (startStacks m) line)
       (absent-unmarked line (l .most))
 
   pub drawn-lines : (store : List ℕ) → T (drawn m set store)

@@ -1,7 +1,8 @@
 -- The proved cases: records with what must come of each, byte for byte.
-use mathlib.Core.List.{List, [], _∷_}
+use mathlib.Core.List.{List, [], _∷_, _++_}
 use Prim.Native.Nat.{ℕ}
-use Rattle.cases.specs.Claims.{ungiven, given, Answer, Refused, Clear, Found, Case}
+use lib.ListN.{replicate}
+use Rattle.cases.specs.Claims.{ungiven, given, Answer, Refused, Clear, Found, Declined, Case}
 
 -- A case from its parts.
 abbrev pub case : List ℕ → Answer → Case
@@ -19,13 +20,25 @@ twoRest = 0x01 ∷ 0x00 ∷ 0x01 ∷ 0x01 ∷ 0x20 ∷ 0x03 ∷ 0x01 ∷ 0x03 �
 abbrev pub twoRules : List ℕ
 twoRules = 0x03 ∷ 0x06 ∷ 0x00 ∷ 0x00 ∷ 0x00 ∷ twoRest
 
+-- A shortest schedule of model Two.
+abbrev pub twoSchedule : List ℕ
+twoSchedule = 0x00 ∷ 0x00 ∷ 0x00 ∷ 0x01 ∷ 0x01 ∷ 0x00 ∷ 0x02 ∷ 0x02 ∷ []
+
+-- The eight bytes of marks, those of the first eight rules given.
+abbrev pub marks : ℕ → List ℕ
+marks bits = bits ∷ replicate 7 0x00
+
+-- Model Two with marks of A.
+abbrev pub heldTwo : ℕ → List ℕ
+heldTwo bits = 0xC8 ∷ 0x83 ∷ 0x04 ∷ (marks bits ++ twoRules)
+
 -- The table of the proved cases.
 unfoldable pub cases : List Case
 cases =
     -- model One
     case (0x4B ∷ 0x02 ∷ 0x01 ∷ 0x01 ∷ oneRules) (Found 1 (0x00 ∷ 0x00 ∷ []) (given (0x27 ∷ []))) ∷
     -- model Two, and at K=1
-    case (0xC8 ∷ 0x03 ∷ twoRules) (Found 4 (0x00 ∷ 0x00 ∷ 0x00 ∷ 0x01 ∷ 0x01 ∷ 0x00 ∷ 0x02 ∷ 0x02 ∷ []) ungiven) ∷
+    case (0xC8 ∷ 0x03 ∷ twoRules) (Found 4 twoSchedule ungiven) ∷
     case (0xCA ∷ 0x01 ∷ 0x03 ∷ twoRules) (Clear (given (0x13 ∷ 0x06 ∷ 0x00 ∷ []))) ∷
     -- Two without A's first rule, at K=1, 2, 3
     case (0xCA ∷ 0x01 ∷ 0x03 ∷ 0x02 ∷ twoRest) (Clear ungiven) ∷
@@ -42,6 +55,18 @@ cases =
     -- Two with the top 0 of A: it takes one more push
     case (0xC8 ∷ 0x83 ∷ 0x01 ∷ 0x00 ∷ twoRules)
     (Found 5 (0x00 ∷ 0x00 ∷ 0x00 ∷ 0x00 ∷ 0x00 ∷ 0x01 ∷ 0x01 ∷ 0x00 ∷ 0x02 ∷ 0x02 ∷ []) ungiven) ∷
+    -- One with its rule held: the target is passed, but no turn may end there
+    case (0x4B ∷ 0x02 ∷ 0x01 ∷ 0x81 ∷ 0x04 ∷ (marks 0x01 ++ oneRules)) (Clear (given (0x05 ∷ []))) ∷
+    -- Two with A's first rule held, which is never its turn's last, and with its second, which always is
+    case (heldTwo 0x01) (Found 4 twoSchedule ungiven) ∷
+    case (heldTwo 0x02) (Clear ungiven) ∷
+    -- schedules that leave a turn after a held step: at their end, for B's turn, for A's next turn, and for a rule that is not there;
+    -- a turn number above 2K−1 comes first
+    case (heldTwo 0x02) (Declined (0x00 ∷ 0x00 ∷ 0x00 ∷ 0x01 ∷ []) 12) ∷
+    case (heldTwo 0x02) (Declined twoSchedule 12) ∷
+    case (heldTwo 0x01) (Declined (0x00 ∷ 0x00 ∷ 0x02 ∷ 0x00 ∷ []) 12) ∷
+    case (heldTwo 0x02) (Declined (0x00 ∷ 0x01 ∷ 0x01 ∷ 0x09 ∷ []) 12) ∷
+    case (heldTwo 0x02) (Declined (0x00 ∷ 0x01 ∷ 0x04 ∷ 0x09 ∷ []) 9) ∷
     -- records refused: two that end too early, and one for each other number
     case [] (Refused 1) ∷
     case (0x4B ∷ 0x02 ∷ []) (Refused 1) ∷
@@ -52,8 +77,14 @@ cases =
     case (0x08 ∷ 0x00 ∷ 0x00 ∷ []) (Refused 6) ∷
     -- a second map that is missing, has an unknown bit or is 0; a top that is missing or no symbol
     case (0x08 ∷ 0x80 ∷ []) (Refused 1) ∷
-    case (0x08 ∷ 0x80 ∷ 0x04 ∷ []) (Refused 3) ∷
+    case (0x08 ∷ 0x80 ∷ 0x10 ∷ []) (Refused 3) ∷
     case (0x08 ∷ 0x80 ∷ 0x00 ∷ []) (Refused 5) ∷
     case (0x08 ∷ 0x80 ∷ 0x01 ∷ []) (Refused 1) ∷
     case (0x08 ∷ 0x80 ∷ 0x02 ∷ 0x10 ∷ []) (Refused 3) ∷
+    -- marks of which a byte is missing, that are all 0, and for a rule that is not there, of A and of B and before a byte too many
+    case (0x08 ∷ 0x80 ∷ 0x04 ∷ replicate 7 0x00) (Refused 1) ∷
+    case (0x08 ∷ 0x80 ∷ 0x04 ∷ marks 0x00) (Refused 5) ∷
+    case (0x48 ∷ 0x80 ∷ 0x04 ∷ (marks 0x02 ++ oneRules)) (Refused 11) ∷
+    case (0x48 ∷ 0x80 ∷ 0x08 ∷ (marks 0x01 ++ oneRules)) (Refused 11) ∷
+    case (0x08 ∷ 0x80 ∷ 0x04 ∷ (marks 0x01 ++ (0x00 ∷ []))) (Refused 11) ∷
     []

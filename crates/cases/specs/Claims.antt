@@ -1,5 +1,5 @@
 -- What is claimed of a record: its refusal, or a verdict on its model over runs of any length, with a shortest schedule and
--- the line table where they are given.
+-- the line table where they are given, or a schedule that replay refuses.
 use mathlib.Core.Bool.{true}
 use mathlib.Core.List.{List, []}
 use mathlib.Core.Path.{_≡_}
@@ -13,7 +13,7 @@ use Rattle.model.specs.Tables.{bytesFor, LineTable}
 use Rattle.model.specs.Valid.{Valid}
 use Rattle.model.specs.Verdict.{clear, found, Judged}
 use Rattle.record.specs.Reader.{readOf}
-use Rattle.replay.specs.declared.Replayed.the-variants.{Accepted}
+use Rattle.replay.specs.declared.Replayed.the-variants as replayed
 use Rattle.replay.specs.Replay.{replayOf}
 
 -- The bytes of a line table, if they are given.
@@ -21,11 +21,13 @@ pub data Table : Type 0 where
   ungiven : Table
   given : List ℕ → Table
 
--- What must come of a record: a refusal by its number, Clear, or Found with its steps and the bytes of a schedule.
+-- What must come of a record: a refusal by its number, Clear, Found with its steps and the bytes of a schedule, or for the bytes of a
+-- schedule the number by which replay refuses them.
 pub data Answer : Type 0 where
   Refused : ℕ → Answer
   Clear : Table → Answer
   Found : ℕ → List ℕ → Table → Answer
+  Declined : List ℕ → ℕ → Answer
 
 -- A record, byte by byte, and what must come of it.
 pub record Case : Type 0 where
@@ -42,7 +44,7 @@ pub record Accepts (bytes : List ℕ) (Fact : Model → Type 0) : Type 0 where
 -- Bytes are a schedule of n steps that reaches the target, and replay says so.
 abbrev pub Scheduled : Model → ℕ → List ℕ → Type 0
 Scheduled m n bytes =
-    Shown (Reaches m) n (λ ss. bytes ≡ bytesOf ss) × (replayOf m bytes ≡ Accepted (m .target) true)
+    Shown (Reaches m) n (λ ss. bytes ≡ bytesOf ss) × (replayOf m bytes ≡ replayed.Accepted (m .target) true)
 
 -- Where bytes are given, they are just as many as the line table of a model has, and a store of zeros comes to hold them.
 abbrev pub Lined : Model → Table → Type 0
@@ -54,6 +56,7 @@ abbrev pub ClaimsOf : List ℕ → Answer → Type 0
 ClaimsOf bytes (Refused n) = readOf bytes ≡ refused n
 ClaimsOf bytes (Clear t) = Accepts bytes (λ m. Judged m clear × Lined m t)
 ClaimsOf bytes (Found n schedule t) = Accepts bytes (λ m. Judged m (found n) × Scheduled m n schedule × Lined m t)
+ClaimsOf bytes (Declined schedule n) = Accepts bytes (λ m. replayOf m schedule ≡ replayed.Refused n)
 
 -- The claims of a case.
 abbrev pub Claims : Case → Type 0

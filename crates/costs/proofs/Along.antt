@@ -1,5 +1,6 @@
 -- One thread's view of a line is a run of the summaries' theory: its own steps are moves, and the end of its turn with the
 -- other's turn after it is one switch. By recursion on the view and on the run, with the line read two states at a time.
+use mathlib.Core.Bool.{Bool, false}
 use mathlib.Core.List.{List, [], _∷_}
 use mathlib.Core.Logic.{_↔_}
 use mathlib.Core.Path.{_≡_, refl, sym, ap, subst, _∙_}
@@ -46,29 +47,30 @@ module _ {ends : ℕ → TurnEnd} {n e : ℕ} where
 
 module _ {m : Model} {i : ThreadId} {top : Top} where
   -- After the line there are no steps, and the top is one that will do.
-  over : {t g : ℕ} {w line : List ℕ} {ss : List Step} → View m i top t g w line ss → line ≡ [] → (ss ≡ []) × T (hasTop top w)
+  over : {t g : ℕ} {held : Bool} {w line : List ℕ} {ss : List Step} → View m i top t held g w line ss → line ≡ []
+      → (ss ≡ []) × T (hasTop top w)
   over (View.stop k) h = (refl, k)
   over (View.skip p v) h = absurd (let z : _≡_ {A = ℕ} 0 1 = cc in omega arith)
   over (View.end p v) h = absurd (let z : _≡_ {A = ℕ} 0 1 = cc in omega arith)
   over (View.move p a v) h = absurd (let z : _≡_ {A = ℕ} 0 1 = cc in omega arith)
 
   -- A turn that ends where the line says.
-  ended : {t g o : ℕ} {w line : List ℕ} {ss : List Step} → g ≡ o → ownerOf t ≡ i → View m i top (suc t) g w line ss
-      → View m i top t g w (o ∷ line) ss
-  ended {t} {g} {w = w} {line = line} {ss = ss} h p v = subst (λ u. View m i top t g w (u ∷ line) ss) h (View.end p v)
+  ended : {t g o : ℕ} {held : Bool} {w line : List ℕ} {ss : List Step} → held ≡ false → g ≡ o → ownerOf t ≡ i
+      → View m i top (suc t) false g w line ss → View m i top t held g w (o ∷ line) ss
+  ended {t} {g} {w = w} {line = line} {ss = ss} f h p v = rw f (subst (λ u. View m i top t false g w (u ∷ line) ss) h (View.end p v))
 
 module _ {m : Model} {i : ThreadId} {top : Top} {turn : ℕ → ℕ} (own : (j : ℕ) → ownerOf (turn j) ≡ i)
     (next : (j : ℕ) → turn (suc j) ≡ suc (suc (turn j))) {ends : ℕ → TurnEnd} {n e : ℕ} where
   -- A view from one of the thread's own turns on is a run.
-  to : {t g j : ℕ} {w line : List ℕ} {ss : List Step} → View m i top t g w line ss → Own ends n e j line → turn j ≡ t
-      → Path (Moves (threadOf i m) turn) (Switches ends n) top (control j g) w ss (control n e)
+  to : {t g j : ℕ} {held : Bool} {w line : List ℕ} {ss : List Step} → View m i top t held g w line ss → Own ends n e j line → turn j ≡ t
+      → Path (Moves (threadOf i m) turn) (Switches ends n) top (record { passed = j; held = held; shared = g }) w ss (control n e)
   to (View.stop k) o h = absurd (some o refl)
   to {t} {j = j} (View.skip p v) o h = absurd (apart i (sym (own j) ∙ ap ownerOf h ∙ p))
-  to (View.move p a v) o h = Path.move (record { rule = a; right = refl; shared = refl; passed = refl; turn = sym h }) (to v o h)
+  to (View.move p a v) o h = Path.move (record { rule = a; right = refl; shared = refl; held = refl; passed = refl; turn = sym h }) (to v o h)
   to (View.end p (View.stop k)) (last a b) h = rw (a, b) (Path.stop k)
   to (View.end p (View.skip q v)) (spare a b) h = let k = over v refl in rw (a, b, k .0) (Path.stop (k .1))
   to {j = j} (View.end p (View.skip q v)) (more a b o) h =
-      Path.change (record { more = below o; leave = sym a; enter = sym b; passed = refl })
+      Path.change (record { more = below o; free = refl; leave = sym a; enter = sym b; fresh = refl; passed = refl })
       (to v o (next j ∙ ap (λ u. suc (suc u)) h))
   to (View.end p (View.end q v)) o h = absurd (apart i (sym q ∙ ap other p))
   to (View.end p (View.move q a v)) o h = absurd (apart i (sym q ∙ ap other p))
@@ -76,27 +78,30 @@ module _ {m : Model} {i : ThreadId} {top : Top} {turn : ℕ → ℕ} (own : (j :
   -- A step that the rules allow.
   moved : {c d : Control} {γ : ℕ} {s : Step} {x : Right} {w line : List ℕ} {ss : List Step}
       → Moves (threadOf i m) turn c γ s x d
-      → Own ends n e (c .passed) line → View m i top (turn (c .passed)) (d .shared) (put x w) line ss
-      → View m i top (turn (c .passed)) (c .shared) (γ ∷ w) line (s ∷ ss)
+      → Own ends n e (c .passed) line → View m i top (turn (c .passed)) (d .held) (d .shared) (put x w) line ss
+      → View m i top (turn (c .passed)) (c .held) (c .shared) (γ ∷ w) line (s ∷ ss)
   moved {c} {s = s} {line = []} r o v = absurd (some o refl)
   moved {c} {s = s} {line = g ∷ line} r o v =
       let same : s ≡ record { turn = turn (c .passed); rule = s .rule } =
       ap {B = Step} (λ (u : ℕ). record { turn = u; rule = s .rule }) (r .turn) in
-      rw same (View.move (own (c .passed)) (r .rule) (rw (r .shared, ← r .right) at v))
+      rw same (View.move (own (c .passed)) (r .rule) (rw (r .held, r .shared, ← r .right) at v))
 
   -- A run is a view.
   from : {c d : Control} {w line : List ℕ} {ss : List Step} → Path (Moves (threadOf i m) turn) (Switches ends n) top c w ss d
-      → d ≡ control n e → Own ends n e (c .passed) line → View m i top (turn (c .passed)) (c .shared) w line ss
-  from {c} (Path.stop k) h (last a b) = ended (ap (λ (d : Control). d .shared) h ∙ sym b) (own (c .passed)) (View.stop k)
+      → d ≡ control n e → Own ends n e (c .passed) line → View m i top (turn (c .passed)) (c .held) (c .shared) w line ss
+  from {c} (Path.stop k) h (last a b) =
+      ended (ap (λ (d : Control). d .held) h) (ap (λ (d : Control). d .shared) h ∙ sym b) (own (c .passed)) (View.stop k)
   from {c} (Path.stop k) h (spare a b) =
-      ended (ap (λ (d : Control). d .shared) h ∙ sym b) (own (c .passed)) (View.skip (ap other (own (c .passed))) (View.stop k))
+      ended (ap (λ (d : Control). d .held) h) (ap (λ (d : Control). d .shared) h ∙ sym b) (own (c .passed))
+      (View.skip (ap other (own (c .passed))) (View.stop k))
   from {c} (Path.stop k) h (more a b o) = absurd (omega (arith, below o, ap (λ (d : Control). d .passed) h))
   from {line = line} (Path.move r p) h o = moved r o (rw (r .passed) at (from {line = line} p h (rw (r .passed) o)))
   from (Path.change r p) h (last a b) = absurd (omega (arith, r .more))
   from (Path.change r p) h (spare a b) = absurd (omega (arith, r .more))
   from {c} (Path.change r p) h (more {line = line} a b o) =
       let v = from {line = line} p h (rw (r .passed) o) in
-      ended (r .leave ∙ a) (own (c .passed)) (View.skip (ap other (own (c .passed))) (rw (r .passed, r .enter, b, next) at v))
+      ended (r .free) (r .leave ∙ a) (own (c .passed))
+      (View.skip (ap other (own (c .passed))) (rw (r .passed, r .fresh, r .enter, b, next) at v))
 
 -- A thread's own turns: two apart, its own, and not late.
 turn-next : (i : ThreadId) (j : ℕ) → turnOf i (suc j) ≡ suc (suc (turnOf i j))
@@ -133,7 +138,7 @@ owns i line n h (suc k) j e =
 
 -- A thread's view from its first turn on is a run.
 from-first : (m : Model) (i : ThreadId) (top : Top) (n g : ℕ) (w line : List ℕ) (ss : List Step) → length line ≡ 2 * suc n
-    → View m i top (turnOf i 0) g w (drop (turnOf i 0) line) ss
+    → View m i top (turnOf i 0) false g w (drop (turnOf i 0) line) ss
     ↔ Path (Moves (threadOf i m) (turnOf i)) (Switches (endsOf i line) n) top (control 0 g) w ss (control n (lastState i n line))
 from-first m i top n g w line ss h =
     let o = owns i line n h n 0 (omega arith) in
@@ -141,7 +146,7 @@ from-first m i top n g w line ss h =
 
 -- One thread's view of a full line is a run of the thread along the line's turn ends, with the same steps.
 pub line-view : (m : Model) (i : ThreadId) (top : Top) (n g : ℕ) (w line : List ℕ) (ss : List Step) → length line ≡ 2 * suc n
-    → View m i top 0 g w line ss
+    → View m i top 0 false g w line ss
     ↔ Path (Moves (threadOf i m) (turnOf i)) (Switches (endsOf i line) n) top (control 0 (firstState i g line)) w ss
     (control n (lastState i n line))
 line-view m A top n g w line ss h = from-first m A top n g w line ss h
@@ -171,14 +176,18 @@ module _ (i : ThreadId) {G : ℕ} (n : ℕ) (line : List ℕ) (size : length lin
       let l = turn-low i j in
       (state-at G line states (turnOf i j) (omega arith), state-at G line states (suc (turnOf i j)) (omega arith))
 
-  -- A thread's run along the line starts at a control of the table.
-  pub first-inside : (g : ℕ) → g < G → InTable G n (control 0 (firstState i g line))
-  first-inside g h = (omega arith, low i)
-    where
-      low : (i : ThreadId) → firstState i g line < G
-      low A = h
-      low B = state-at G line states 0 (omega arith)
+  module _ {controls : ℕ} (four : G ≤ 4) (states-in : G ≤ controls) where
+    -- A thread's run along the line starts at a control of the table, which has those of G states.
+    pub first-inside : (g : ℕ) → g < G → InTable controls n (control 0 (firstState i g line))
+    first-inside g h = record { passed = omega arith; shared = omega (arith, low i); number = omega (arith, low i) }
+      where
+        low : (i : ThreadId) → firstState i g line < G
+        low A = h
+        low B = state-at G line states 0 (omega arith)
 
-  -- It ends at one.
-  pub last-inside : InTable G n (control n (lastState i n line))
-  last-inside = let l = turn-low i n in (le-refl n, state-at G line states (turnOf i n) (omega arith))
+    -- It ends at one.
+    pub last-inside : InTable controls n (control n (lastState i n line))
+    last-inside =
+        let l = turn-low i n in
+        let low = state-at G line states (turnOf i n) (omega arith) in
+        record { passed = le-refl n; shared = omega (arith, low); number = omega (arith, low) }

@@ -1,4 +1,4 @@
--- A list written value by value from the front: each value written is good for its place, and the others are the old ones.
+-- A list written value by value from the front: each value passed is good for its place, and the others are the old ones.
 use mathlib.Core.List.{List}
 use mathlib.Core.Path.{_≡_, refl, _∙_}
 use Prim.Native.Nat.{ℕ, _+_, _≤_, _<_}
@@ -30,7 +30,17 @@ front-next {Good} {k} {x} {old} {new} r room e =
       above = λ v l. getD-set-other new k v x 0 (λ s. omega arith) ∙ r .above v (omega arith);
     }
 
--- At the end all values are written.
+-- One value more is good as it was.
+pub front-keep : {Good : ℕ → ℕ → Type 0} {k : ℕ} {old new : List ℕ} → Front Good k old new → Good k (getD old k 0)
+    → Front Good (k + 1) old new
+front-keep {Good} {k} {old} {new} r e =
+    record {
+      size = r .size;
+      below = below-more (λ i. Good i (getD new i 0)) k (r .below) (rw (r .above k (omega arith)) e);
+      above = λ v l. r .above v (omega arith);
+    }
+
+-- At the end all values are good.
 pub front-all : {Good : ℕ → ℕ → Type 0} {k count size : ℕ} {old new : List ℕ} → Front Good k old new → count ≡ size → count ≤ k
     → (v : ℕ) → v < size → Good v (getD new v 0)
 front-all r e l v h = r .below v (omega arith)

@@ -4,5 +4,6 @@ pub mod Entries
 pub mod Filled
 pub mod Front
 pub mod Pairs
+pub mod Rooms
 pub mod Values
 pub mod Views

@@ -1,5 +1,7 @@
 -- A run is two views of one line. In each turn the owner makes its steps, and the other thread's view is one `skip`, which
--- does not look at the shared state: so a run splits step by step, and two views join turn by turn.
+-- does not look at the shared state: so a run splits step by step, and two views join turn by turn. Whether a held step was just made is
+-- the owner's to know: the other thread's view has no held step behind it.
+use mathlib.Core.Bool.{Bool, false}
 use mathlib.Core.List.{List, [], _∷_}
 use mathlib.Core.Logic.{_↔_}
 use mathlib.Core.Path.{_≡_, refl, sym, ap, _∙_}
@@ -8,7 +10,7 @@ use native.Mathlib.Omega.{arith}
 use lib.Dec.{T}
 use lib.ListN.{length}
 use Rattle.model.specs.declared.Model.{Model}
-use Rattle.model.specs.Rules.{ruleAt, applies, put}
+use Rattle.model.specs.Rules.{ruleAt, applies, put, heldAt}
 use Rattle.model.specs.Runs.{Turns, stop, end, move, Marked, EndsUnder}
 use Rattle.model.specs.declared.Top.{Top}
 use Rattle.model.specs.declared.Top.the-variants.{Any}
@@ -103,48 +105,50 @@ under-tops m σ =
 pub record Views (m : Model) (ask : ThreadId → Top) (t g : ℕ) (σ : Stacks) (line : List ℕ) (n : ℕ) : Type 0 where
   pub xs : List Step
   pub ys : List Step
-  pub a : View m A (ask A) t g (σ .a) line xs
-  pub b : View m B (ask B) t g (σ .b) line ys
+  pub a : View m A (ask A) t false g (σ .a) line xs
+  pub b : View m B (ask B) t false g (σ .b) line ys
   pub steps : length xs + length ys ≡ n
 
--- The views of two threads, and the steps of both.
-record Both (m : Model) (ask : ThreadId → Top) (i j : ThreadId) (t g : ℕ) (σ : Stacks) (line : List ℕ) (ss : List Step) : Type 0 where
+-- The views of two threads, of which the first has the turn, and the steps of both.
+record Both (m : Model) (ask : ThreadId → Top) (i j : ThreadId) (t : ℕ) (held : Bool) (g : ℕ) (σ : Stacks) (line : List ℕ)
+    (ss : List Step) : Type 0 where
   mine : List Step
   theirs : List Step
-  own : View m i (ask i) t g (stackOf i σ) line mine
-  others : View m j (ask j) t g (stackOf j σ) line theirs
+  own : View m i (ask i) t held g (stackOf i σ) line mine
+  others : View m j (ask j) t false g (stackOf j σ) line theirs
   merged : Merged mine theirs ss
 
 -- A run with the steps of both views, to stacks under the tops of both.
-pub record Joined (m : Model) (ask : ThreadId → Top) (t g : ℕ) (σ : Stacks) (line : List ℕ) (xs ys : List Step) : Type 0 where
+pub record Joined (m : Model) (ask : ThreadId → Top) (t : ℕ) (held : Bool) (g : ℕ) (σ : Stacks) (line : List ℕ)
+    (xs ys : List Step) : Type 0 where
   pub steps : List Step
   pub stacks : Stacks
-  pub turns : Turns m t g σ line steps stacks
+  pub turns : Turns m t held g σ line steps stacks
   pub under : Under ask stacks
   pub merged : Merged xs ys steps
 
 -- In a turn of the other thread a view is a skip.
 pub skips : {m : Model} {j : ThreadId} {top : Top} {t g o : ℕ} {w line : List ℕ} {ss : List Step}
-    → View m j top t g w (o ∷ line) ss → ownerOf t ≡ other j → View m j top (suc t) o w line ss
+    → View m j top t false g w (o ∷ line) ss → ownerOf t ≡ other j → View m j top (suc t) false o w line ss
 skips (skip e r) h = r
 skips {j} (end e r) h = absurd (apart j (sym e ∙ h))
 skips {j} (move e p r) h = absurd (apart j (sym e ∙ h))
 
 module _ {m : Model} (ask : ThreadId → Top) where
-  -- The views in the other order.
+  -- The views in the other order, at the start of a turn.
   over : {i j : ThreadId} {t g : ℕ} {σ : Stacks} {line : List ℕ} {ss : List Step}
-      → Both m ask i j t g σ line ss → Both m ask j i t g σ line ss
+      → Both m ask i j t false g σ line ss → Both m ask j i t false g σ line ss
   over v =
       record { mine = v .theirs; theirs = v .mine; own = v .others; others = v .own; merged = swapped (v .merged) }
 
   -- The run of the views in the other order.
   joined-over : {t g : ℕ} {σ : Stacks} {line : List ℕ} {xs ys : List Step}
-      → Joined m ask t g σ line xs ys → Joined m ask t g σ line ys xs
+      → Joined m ask t false g σ line xs ys → Joined m ask t false g σ line ys xs
   joined-over r = record { steps = r .steps; stacks = r .stacks; turns = r .turns; under = r .under; merged = swapped (r .merged) }
 
   -- A run is the views of the thread that has the turn and of the other one.
-  parted : {i j : ThreadId} {t g : ℕ} {σ τ : Stacks} {line : List ℕ} {ss : List Step}
-      → Turns m t g σ line ss τ → Under ask τ → Pair i j → ownerOf t ≡ i → Both m ask i j t g σ line ss
+  parted : {i j : ThreadId} {t g : ℕ} {held : Bool} {σ τ : Stacks} {line : List ℕ} {ss : List Step}
+      → Turns m t held g σ line ss τ → Under ask τ → Pair i j → ownerOf t ≡ i → Both m ask i j t held g σ line ss
   parted {i} {j} stop u p e = record { mine = []; theirs = []; own = stop (u i); others = stop (u j); merged = none }
   parted {t = t} (end r) u p e =
       let v = over (parted r u (flip p) (next-turn p t e)) in
@@ -166,18 +170,19 @@ module _ {m : Model} (ask : ThreadId → Top) where
       }
 
   -- A step of a run, made by the thread that has the turn.
-  moves : {i : ThreadId} {t g r top o : ℕ} {σ τ : Stacks} {w line : List ℕ} {ss : List Step}
+  moves : {i : ThreadId} {t g r top o : ℕ} {held : Bool} {σ τ : Stacks} {w line : List ℕ} {ss : List Step}
       → ownerOf t ≡ i → stackOf i σ ≡ top ∷ w → T (applies (threadOf i m) r g top)
-      → Turns m t (ruleAt (threadOf i m) r .after .0) (withStack i (put (ruleAt (threadOf i m) r .right) w) σ) (o ∷ line) ss τ
-      → Turns m t g σ (o ∷ line) (record { turn = t; rule = r } ∷ ss) τ
+      → Turns m t (heldAt (threadOf i m) r) (ruleAt (threadOf i m) r .after .0) (withStack i (put (ruleAt (threadOf i m) r .right) w) σ)
+      (o ∷ line) ss τ
+      → Turns m t held g σ (o ∷ line) (record { turn = t; rule = r } ∷ ss) τ
   moves e q h r = move (rw (← e) at q) (rw (← e) at h) (rw (← e) at r)
 
   -- A turn: its owner's steps, and then the rest of the run.
-  turn : {i j : ThreadId} {t g o : ℕ} {w line : List ℕ} {xs ys : List Step} → View m i (ask i) t g w (o ∷ line) xs
+  turn : {i j : ThreadId} {t g o : ℕ} {held : Bool} {w line : List ℕ} {xs ys : List Step} → View m i (ask i) t held g w (o ∷ line) xs
       → Pair i j → (σ : Stacks) → ownerOf t ≡ i → stackOf i σ ≡ w
-      → ((τ : Stacks) (zs : List Step) → stackOf j τ ≡ stackOf j σ → View m i (ask i) (suc t) o (stackOf i τ) line zs
-      → Joined m ask (suc t) o τ line zs ys)
-      → Joined m ask t g σ (o ∷ line) xs ys
+      → ((τ : Stacks) (zs : List Step) → stackOf j τ ≡ stackOf j σ → View m i (ask i) (suc t) false o (stackOf i τ) line zs
+      → Joined m ask (suc t) false o τ line zs ys)
+      → Joined m ask t held g σ (o ∷ line) xs ys
   turn {i} (skip h v) p σ e q go = absurd (apart i (sym e ∙ h))
   turn {xs = xs} (end h v) p σ e q go =
       let r = go σ xs refl (rw q v) in
@@ -195,13 +200,14 @@ module _ {m : Model} (ask : ThreadId → Top) where
 
   -- Two views without turns are the run that stops.
   stops : {i j : ThreadId} {t g : ℕ} (σ : Stacks) {u w : List ℕ} {xs ys : List Step} → Pair i j → stackOf i σ ≡ u → stackOf j σ ≡ w
-      → View m i (ask i) t g u [] xs → View m j (ask j) t g w [] ys → Joined m ask t g σ [] xs ys
+      → View m i (ask i) t false g u [] xs → View m j (ask j) t false g w [] ys → Joined m ask t false g σ [] xs ys
   stops σ p e f (stop x) (stop y) =
       record { steps = []; stacks = σ; turns = stop; under = each (λ k. T (hasTop (ask k) (stackOf k σ))) p (rw e x) (rw f y); merged = none }
 
   -- The views of the thread that has the turn and of the other one are a run.
   join : (line : List ℕ) {i j : ThreadId} {t g : ℕ} (σ : Stacks) {xs ys : List Step} → Pair i j → ownerOf t ≡ i
-      → View m i (ask i) t g (stackOf i σ) line xs → View m j (ask j) t g (stackOf j σ) line ys → Joined m ask t g σ line xs ys
+      → View m i (ask i) t false g (stackOf i σ) line xs → View m j (ask j) t false g (stackOf j σ) line ys
+      → Joined m ask t false g σ line xs ys
   join [] σ p e v w = stops σ p refl refl v w
   join (o ∷ line) {t = t} σ p e v w =
       turn v p σ e refl (λ τ zs s u.
@@ -209,18 +215,18 @@ module _ {m : Model} (ask : ThreadId → Top) where
 
   -- A run is A's and B's views, whichever has the turn.
   split-at : (i : ThreadId) {t g : ℕ} {σ τ : Stacks} {line : List ℕ} {ss : List Step} → ownerOf t ≡ i
-      → Turns m t g σ line ss τ → Under ask τ → Both m ask A B t g σ line ss
+      → Turns m t false g σ line ss τ → Under ask τ → Both m ask A B t false g σ line ss
   split-at A e r u = parted r u ab e
   split-at B e r u = over (parted r u ba e)
 
   -- A's and B's views are a run, whichever has the turn.
   join-at : (i : ThreadId) {t g : ℕ} {σ : Stacks} {line : List ℕ} {xs ys : List Step} → ownerOf t ≡ i
-      → View m A (ask A) t g (σ .a) line xs → View m B (ask B) t g (σ .b) line ys → Joined m ask t g σ line xs ys
+      → View m A (ask A) t false g (σ .a) line xs → View m B (ask B) t false g (σ .b) line ys → Joined m ask t false g σ line xs ys
   join-at A {σ = σ} {line = line} e v w = join line σ ab e v w
   join-at B {σ = σ} {line = line} e v w = joined-over (join line σ ba e w v)
 
   -- A run is both threads' views of its line, and their steps are as many as the run's.
-  pub views : {t g : ℕ} {σ τ : Stacks} {line : List ℕ} {ss : List Step} → Turns m t g σ line ss τ → Under ask τ
+  pub views : {t g : ℕ} {σ τ : Stacks} {line : List ℕ} {ss : List Step} → Turns m t false g σ line ss τ → Under ask τ
       → Views m ask t g σ line (length ss)
   views {t} r u =
       let v = split-at (ownerOf t) refl r u in
@@ -228,7 +234,7 @@ module _ {m : Model} (ask : ThreadId → Top) where
 
   -- Two views of one line are a run, whose steps are theirs, each view's in its own order.
   pub merged-views : {t g : ℕ} {σ : Stacks} {line : List ℕ} {xs ys : List Step}
-      → View m A (ask A) t g (σ .a) line xs → View m B (ask B) t g (σ .b) line ys → Joined m ask t g σ line xs ys
+      → View m A (ask A) t false g (σ .a) line xs → View m B (ask B) t false g (σ .b) line ys → Joined m ask t false g σ line xs ys
   merged-views {t} v w = join-at (ownerOf t) refl v w
 
 -- A run to the tops that a model asks for is both threads' views of its line to them ..
@@ -238,7 +244,8 @@ under-views {m} (σ, r, h) = views (topsOf m) r (under-tops m σ .0 h)
 
 -- .. and two such views are a run with as many steps as both.
 pub joined-under : {m : Model} {line : List ℕ} {xs ys : List Step}
-    → View m A (m .a .top) 0 (m .start .0) (m .a .first .0 ∷ []) line xs → View m B (m .b .top) 0 (m .start .0) (m .b .first .0 ∷ []) line ys
+    → View m A (m .a .top) 0 false (m .start .0) (m .a .first .0 ∷ []) line xs
+    → View m B (m .b .top) 0 false (m .start .0) (m .b .first .0 ∷ []) line ys
     → (ss : List Step) × EndsUnder m line ss × (length ss ≡ length xs + length ys)
 joined-under {m} v w =
     let r = merged-views (topsOf m) {σ = startStacks m} v w in
@@ -248,7 +255,7 @@ joined-under {m} v w =
 pub marked-views : {m : Model} (line : List ℕ)
     → Marked m line ↔ (
     (xs : List Step) × (ys : List Step)
-    × View m A Any 0 (m .start .0) (m .a .first .0 ∷ []) line xs × View m B Any 0 (m .start .0) (m .b .first .0 ∷ []) line ys
+    × View m A Any 0 false (m .start .0) (m .a .first .0 ∷ []) line xs × View m B Any 0 false (m .start .0) (m .b .first .0 ∷ []) line ys
     )
 marked-views {m} line = (
   λ r. let v = views anyTop (r .2) (λ k. tt) in (v .xs, v .ys, v .a, v .b),

@@ -1,5 +1,6 @@
 -- The least number of steps of one thread along a line to a top that will do, read off the table of its stretches: the first symbol
 -- still stands at the end, or it has gone at some control and the floor, which no rule takes, stands from there on.
+use mathlib.Core.Bool.{false}
 use mathlib.Core.List.{List, [], _∷_}
 use mathlib.Core.Path.{_≡_}
 use Prim.Native.Nat.{ℕ, zero, suc, _-_, _*_, _^_, _<_}
@@ -14,43 +15,45 @@ use Rattle.model.specs.declared.ThreadId.{ThreadId}
 use Rattle.model.specs.declared.ThreadId.the-variants.{A, B}
 use Rattle.model.specs.Walk.{threadOf, Step}
 use Rattle.costs.specs.View.{View}
+use Rattle.summary.specs.Cells.{freeOf}
 use Rattle.summary.specs.Control.{Control, TurnEnd, Moves, Switches, entry}
 use Rattle.summary.specs.Edges.{bestOf}
 use Rattle.summary.specs.Stretch.{pop, stay, Path}
 use Rattle.summary.specs.Table.{Least}
 use Rattle.costs.specs.Ends.{turnOf, endsOf, firstState, lastState}
 
--- A control from its parts.
+-- A control at which a turn may end: no held step has led to it.
 abbrev pub control : ℕ → ℕ → Control
-control j q = record { passed = j; shared = q }
+control j q = record { passed = j; held = false; shared = q }
 
-module _ (ends : ℕ → TurnEnd) (table : List ℕ) (c : Control) (γ : ℕ) (top : Top) (d : Control) where
+module _ (controls : ℕ) (ends : ℕ → TurnEnd) (table : List ℕ) (c : Control) (γ : ℕ) (top : Top) (d : Control) where
   -- The least of a count and of the runs whose symbol goes at control c₁, where the floor then stands until d.
   abbrev pub through : Control → ℕ → ℕ
-  through c₁ old = bestOf 0 (entry ends table c γ (pop c₁)) (entry ends table c₁ 16 (stay top d)) old
+  through c₁ old = bestOf 0 (entry controls ends table c γ (pop c₁)) (entry controls ends table c₁ 16 (stay top d)) old
 
-  -- The same for the controls after j turn ends in one of the states below a number.
+  -- The same for the states below a number, after j turn ends. After a held step the floor could neither stay nor let a turn end.
   unfoldable pub overStates : ℕ → ℕ → ℕ → ℕ
   overStates j zero old = old
   overStates j (suc q) old = through (control j q) (overStates j q old)
 
-  -- The same for the first j numbers of turn ends and g states, from the runs whose symbol never goes.
-  unfoldable pub overTurns : ℕ → ℕ → ℕ
-  overTurns g zero = entry ends table c γ (stay top d)
-  overTurns g (suc j) = overStates j g (overTurns g j)
+  -- The same for the first j numbers of turn ends and all states, from the runs whose symbol never goes.
+  unfoldable pub overTurns : ℕ → ℕ
+  overTurns zero = entry controls ends table c γ (stay top d)
+  overTurns (suc j) = overStates j (freeOf controls) (overTurns j)
 
--- The cost of a thread that starts at c with the one symbol γ and ends at d under a top: with g states and n turn ends.
+-- The cost of a thread that starts at c with the one symbol γ and ends at d under a top: with a table of so many controls, and n turn
+-- ends.
 abbrev pub pairCost : (ℕ → TurnEnd) → List ℕ → ℕ → ℕ → Control → ℕ → Top → Control → ℕ
-pairCost ends table g n c γ top d = overTurns ends table c γ top d g (suc n)
+pairCost ends table controls n c γ top d = overTurns controls ends table c γ top d (suc n)
 
 -- The cost of a thread along a full line of 2(n + 1) states, where the run starts in q and the thread with γ alone.
 abbrev pub lineCost : ThreadId → List ℕ → ℕ → ℕ → ℕ → ℕ → Top → List ℕ → ℕ
-lineCost id table g n q γ top line =
-    pairCost (endsOf id line) table g n (control 0 (firstState id q line)) γ top (control n (lastState id n line))
+lineCost id table controls n q γ top line =
+    pairCost (endsOf id line) table controls n (control 0 (firstState id q line)) γ top (control n (lastState id n line))
 
 -- A cost is the capped least number of a thread's steps in its views of a line to a top, from the start of a model.
 abbrev pub ViewCost : Model → ThreadId → Top → List ℕ → ℕ → Type 0
-ViewCost m id top line cost = Least (View m id top 0 (m .start .0) (threadOf id m .first .0 ∷ []) line) cost
+ViewCost m id top line cost = Least (View m id top 0 false (m .start .0) (threadOf id m .first .0 ∷ []) line) cost
 
 -- The steps of a thread along a full line with n turn ends to a top, where the run starts in q.
 abbrev pub RunAlong : Thread → Top → ThreadId → ℕ → ℕ → List ℕ → List Step → Type 0

@@ -3,15 +3,17 @@
 use mathlib.Core.Bool.{cond}
 use mathlib.Core.List.{List}
 use mathlib.Core.Path.{_≡_}
-use Prim.Native.Nat.{ℕ, zero, suc, _+_, _*_, _^_, _<_}
+use Prim.Native.Nat.{ℕ, zero, suc, _+_, _*_, _^_, _≤_, _<_}
 use lib.Dec.{eqb}
-use lib.ListN.{getD}
+use lib.ListN.{length, getD}
+use Rattle.model.specs.declared.Model.{Model}
 use Rattle.model.specs.declared.Thread.{Thread}
 use Rattle.model.specs.declared.Top.{Top}
 use Rattle.model.specs.Lines.{digits}
 use Rattle.model.specs.declared.ThreadId.{ThreadId}
-use Rattle.summary.specs.Cells.{plain, lane, laneOf, first, second}
+use Rattle.summary.specs.Cells.{controlsOf, plain, lane, laneOf, first, second, size, First, Solved}
 use Rattle.summary.specs.Control.{TurnEnd}
+use Rattle.costs.specs.declared.Side.{Side}
 use Rattle.costs.specs.Cost.{lineCost, LeastAt}
 use Rattle.costs.specs.Ends.{endsOf}
 
@@ -19,11 +21,38 @@ use Rattle.costs.specs.Ends.{endsOf}
 abbrev pub fullLines : ℕ
 fullLines = 4096
 
--- The cell of a stretch with so many turn ends inside, where l is the lane of the last of them.
-abbrev pub cellAt : ℕ → ℕ → ℕ → ℕ → ℕ → ℕ
-cellAt zero q γ d l = plain q γ d
-cellAt (suc zero) q γ d l = lane first q γ d + l
-cellAt (suc (suc more)) q γ d l = lane second q γ d + l
+-- A table has the cells that each thread of a model needs.
+pub record TableFor (m : Model) (table : List ℕ) : Type 0 where
+  pub a : size (controlsOf (m .a) (m .g)) ≤ length table
+  pub b : size (controlsOf (m .b) (m .g)) ≤ length table
+
+-- A thread's side of the full lines of states below g, where the run starts in a state.
+abbrev pub sideOf : Thread → ℕ → ThreadId → ℕ → Side
+sideOf t g id start = record { g = g; controls = controlsOf t g; id = id; start = start; symbol = t .first .0 }
+
+-- A side is that of a thread.
+abbrev pub IsSide : Thread → Side → Type 0
+IsSide t side = side ≡ sideOf t (side .g) (side .id) (side .start)
+
+-- The numbers of a side are in range.
+pub record SideFits (side : Side) : Type 0 where
+  pub some : 1 ≤ side .g
+  pub four : side .g ≤ 4
+  pub states : side .g ≤ side .controls
+  pub controls : side .controls ≤ 8
+  pub start : side .start < side .g
+  pub symbol : side .symbol < 17
+
+-- The parts of a table with at most one turn end inside are solved for a thread and a top.
+abbrev pub FirstSolved : Thread → Top → ℕ → List ℕ → Type 0
+FirstSolved t top g table = Solved (controlsOf t g) (First t top (controlsOf t g)) (second (controlsOf t g)) table
+
+-- The cell of a stretch from control number p, in a table of so many controls, with so many turn ends inside, where l is the lane of the
+-- last of them.
+abbrev pub cellAt : ℕ → ℕ → ℕ → ℕ → ℕ → ℕ → ℕ
+cellAt controls zero p γ d l = plain p γ d
+cellAt controls (suc zero) p γ d l = lane (first controls) p γ d + l
+cellAt controls (suc (suc more)) p γ d l = lane (second controls) p γ d + l
 
 -- The lane of turn end j.
 abbrev pub endLane : (ℕ → TurnEnd) → ℕ → ℕ
@@ -43,19 +72,22 @@ pub record FirstLanes (id : ThreadId) (g : ℕ) (lanes : List ℕ) : Type 0 wher
   pub lane : (v : ℕ) → v < g ^ 6 → getD lanes v 0 ≡ lineLane id g 6 v 0
 
 -- The cost of the full line whose value is v, read off a table.
-abbrev pub costOf : ThreadId → List ℕ → ℕ → ℕ → ℕ → ℕ → Top → ℕ → ℕ
-costOf id table g n q γ top v = lineCost id table g n q γ top (digits g (2 * suc n) v)
+abbrev pub costOf : List ℕ → Side → ℕ → Top → ℕ → ℕ
+costOf table side n top v =
+    lineCost (side .id) table (side .controls) n (side .start) (side .symbol) top (digits (side .g) (2 * suc n) v)
 
 -- With two turn ends: the costs of the lines whose first turn end has a lane below l.
-abbrev pub CostsTo : Thread → Top → ThreadId → ℕ → ℕ → ℕ → List ℕ → Type 0
-CostsTo t top id g q l costs = (v : ℕ) → v < g ^ 6 → lineLane id g 6 v 0 < l → LeastAt t top id g 2 q v (getD costs v 0)
+abbrev pub CostsTo : Thread → Top → Side → ℕ → List ℕ → Type 0
+CostsTo t top side l costs =
+    (v : ℕ) → v < side .g ^ 6 → lineLane (side .id) (side .g) 6 v 0 < l
+    → LeastAt t top (side .id) (side .g) 2 (side .start) v (getD costs v 0)
 
 -- The costs of all full lines with n turn ends, read off a table into a list.
-abbrev pub ReadOff : ThreadId → List ℕ → ℕ → ℕ → ℕ → ℕ → List ℕ → Top → Type 0
-ReadOff id table g n q γ costs top = (v : ℕ) → v < g ^ (2 * suc n) → getD costs v 0 ≡ costOf id table g n q γ top v
+abbrev pub ReadOff : List ℕ → Side → ℕ → List ℕ → Top → Type 0
+ReadOff table side n costs top = (v : ℕ) → v < side .g ^ (2 * suc n) → getD costs v 0 ≡ costOf table side n top v
 
 -- The same of the lines with two turn ends whose first one has the lane l; the others keep their costs.
-abbrev pub SliceOff : ThreadId → List ℕ → ℕ → ℕ → ℕ → ℕ → List ℕ → List ℕ → Top → Type 0
-SliceOff id table g q γ l old new top =
-    (v : ℕ) → v < g ^ 6
-    → getD new v 0 ≡ cond (eqb (lineLane id g 6 v 0) l) (costOf id table g 2 q γ top v) (getD old v 0)
+abbrev pub SliceOff : List ℕ → Side → ℕ → List ℕ → List ℕ → Top → Type 0
+SliceOff table side l old new top =
+    (v : ℕ) → v < side .g ^ 6
+    → getD new v 0 ≡ cond (eqb (lineLane (side .id) (side .g) 6 v 0) l) (costOf table side 2 top v) (getD old v 0)

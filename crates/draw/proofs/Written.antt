@@ -10,10 +10,11 @@ use lib.ListN.{length, drop, set}
 use lib.Seq.{drop-set-lt}
 use Rattle.model.specs.declared.Model.{Model}
 use Rattle.model.specs.declared.Top.the-variants.{Any}
+use Rattle.model.specs.Bits.{bitAt}
 use Rattle.model.specs.Fits.{Fits}
 use Rattle.model.specs.Lines.{Line, bits, value, position, tableBits}
 use Rattle.model.specs.Runs.{Marked}
-use Rattle.model.specs.Tables.{bitAt, bytesFor, LineTable}
+use Rattle.model.specs.Tables.{bytesFor, LineTable}
 use Rattle.model.proofs.Positions.{position-below, position-injective}
 use Rattle.model.proofs.Tests.{failed}
 use Rattle.costs.specs.Cost.{BothCosts}

@@ -7,9 +7,8 @@ ghost use Rattle.model.specs.declared.Top.the-variants.{Any};
 ghost use Rattle.model.specs.Fits.{Fits};
 ghost use Rattle.model.specs.Tables.{bytesFor};
 ghost use Rattle.model.specs.Schedules.{mostBytes};
-ghost use Rattle.summary.specs.Cells.{size};
 ghost use Rattle.costs.specs.Cost.{BothCosts, FirstNamed, SecondNamed, TargetCosts};
-ghost use Rattle.costs.specs.Lanes.{fullLines};
+ghost use Rattle.costs.specs.Lanes.{fullLines, TableFor};
 ghost use Rattle.judge.specs.Answer.{refusalOf, Answers, LeavesLines, LeavesSchedule};
 ghost use Rattle.judge.specs.Best.{Best};
 
@@ -21,6 +20,7 @@ use model::Model;
 use model::Top;
 use summary::CAP;
 use summary::cells::SIZE;
+use summary::cells::SMALL;
 
 // A verdict, Found with the number of steps of a shortest run; or a refusal's number.
 pub enum Judgement {
@@ -54,25 +54,41 @@ pub fn judge(m: Model, lines: &mut [u8], schedule: &mut [u8]) -> Judgement
     verdict(m, lines, schedule)
 }
 
-// The verdict on a model in range, where the stores have room. The table is here for both ways, so that the stack holds it once.
+// The verdict on a model in range, where the stores have room. The table is here for all ways, so that the stack holds it once: the
+// smaller one where no rule is held.
 fn verdict(m: Model, lines: &mut [u8], schedule: &mut [u8]) -> Judgement
     requires { ⌜ Fits m ⌝ ∗ ⌜ bytesFor (m .g) (m .k) ≤ length (now lines) ⌝ ∗ ⌜ mostBytes ≤ length (now schedule) ⌝ }
     ensures answer { λ r. ⌜ Answers m 0 r ⌝ }
     ensures table { λ r. ⌜ LeavesLines m r (now (lines .entry)) (now (lines .exit)) ⌝ }
     ensures witness { λ r. ⌜ LeavesSchedule m r (now (schedule .entry)) (now (schedule .exit)) ⌝ }
 {
+    if costs::room::is_free(m) {
+        let mut table = [0u16; SMALL];
+        return by_tops(m, &mut table, lines, schedule);
+    }
     let mut table = [0u16; SIZE];
+    by_tops(m, &mut table, lines, schedule)
+}
+
+// The same, by whether a top is named.
+fn by_tops(m: Model, table: &mut [u16], lines: &mut [u8], schedule: &mut [u8]) -> Judgement
+    requires { ⌜ Fits m ⌝ ∗ ⌜ TableFor m (now table) ⌝ ∗ ⌜ bytesFor (m .g) (m .k) ≤ length (now lines) ⌝
+        ∗ ⌜ mostBytes ≤ length (now schedule) ⌝ }
+    ensures answer { λ r. ⌜ Answers m 0 r ⌝ }
+    ensures table { λ r. ⌜ LeavesLines m r (now (lines .entry)) (now (lines .exit)) ⌝ }
+    ensures witness { λ r. ⌜ LeavesSchedule m r (now (schedule .entry)) (now (schedule .exit)) ⌝ }
+{
     let first = m.a;
     let top_a = first.top;
     if names(top_a) {
-        return to_tops(m, &mut table, lines, schedule);
+        return to_tops(m, table, lines, schedule);
     }
     let second = m.b;
     let top_b = second.top;
     if names(top_b) {
-        return to_tops(m, &mut table, lines, schedule);
+        return to_tops(m, table, lines, schedule);
     }
-    to_any(m, &mut table, lines, schedule)
+    to_any(m, table, lines, schedule)
 }
 
 // Whether a symbol is named.
@@ -87,7 +103,7 @@ fn names(top: Top) -> bool
 
 // The verdict where no top is named: the costs to any top serve for the line table and for the target.
 fn to_any(m: Model, table: &mut [u16], lines: &mut [u8], schedule: &mut [u8]) -> Judgement
-    requires { ⌜ Fits m ⌝ ∗ ⌜ length (now table) ≡ size ⌝ ∗ ⌜ bytesFor (m .g) (m .k) ≤ length (now lines) ⌝
+    requires { ⌜ Fits m ⌝ ∗ ⌜ TableFor m (now table) ⌝ ∗ ⌜ bytesFor (m .g) (m .k) ≤ length (now lines) ⌝
         ∗ ⌜ mostBytes ≤ length (now schedule) ⌝
         ∗ ⌜ (m .a .top ≡ Any) × (m .b .top ≡ Any) ⌝ }
     ensures answer { λ r. ⌜ Answers m 0 r ⌝ }
@@ -103,7 +119,7 @@ fn to_any(m: Model, table: &mut [u16], lines: &mut [u8], schedule: &mut [u8]) ->
 
 // The verdict where a top may be named: the costs to any top give the line table, those to the tops that are named the verdict.
 fn to_tops(m: Model, table: &mut [u16], lines: &mut [u8], schedule: &mut [u8]) -> Judgement
-    requires { ⌜ Fits m ⌝ ∗ ⌜ length (now table) ≡ size ⌝ ∗ ⌜ bytesFor (m .g) (m .k) ≤ length (now lines) ⌝
+    requires { ⌜ Fits m ⌝ ∗ ⌜ TableFor m (now table) ⌝ ∗ ⌜ bytesFor (m .g) (m .k) ≤ length (now lines) ⌝
         ∗ ⌜ mostBytes ≤ length (now schedule) ⌝ }
     ensures answer { λ r. ⌜ Answers m 0 r ⌝ }
     ensures table { λ r. ⌜ LeavesLines m r (now (lines .entry)) (now (lines .exit)) ⌝ }

@@ -159,10 +159,12 @@ pub fn with_b(m: Model, count: usize) -> Model {
 // A thread whose top is asked to be this symbol.
 fn topped(t: Thread, top: u8) -> Thread {
     let first = t.first;
+    let held = t.held;
     let rules = t.rules;
     Thread {
         first,
         top: Top::Named(Symbol(top)),
+        held,
         count: t.count,
         rules,
     }
@@ -181,5 +183,37 @@ pub fn with_top_b(m: Model, top: u8) -> Model {
     let b = m.b;
     let mut other = m;
     other.b = topped(b, top);
+    other
+}
+
+// A thread whose rules from 56 on are held as a byte says.
+fn marked(t: Thread, byte: u8) -> Thread {
+    let first = t.first;
+    let top = t.top;
+    let rules = t.rules;
+    let mut held = [0u8; 8];
+    held[7] = byte;
+    Thread {
+        first,
+        top,
+        held,
+        count: t.count,
+        rules,
+    }
+}
+
+// A model with these marks of A.
+pub fn with_marks_a(m: Model, byte: u8) -> Model {
+    let a = m.a;
+    let mut other = m;
+    other.a = marked(a, byte);
+    other
+}
+
+// A model with these marks of B.
+pub fn with_marks_b(m: Model, byte: u8) -> Model {
+    let b = m.b;
+    let mut other = m;
+    other.b = marked(b, byte);
     other
 }

@@ -1,4 +1,4 @@
-// Judges document 01's models, some with tops, the longest and deepest ones we know and files of random ones, and compares: verdict,
+// Judges document 01's models, some with tops and some with held rules, the longest and deepest ones we know and files of random ones, and compares: verdict,
 // steps, line table, and the schedule, which is replayed.
 use vectors::Tally;
 
@@ -48,8 +48,43 @@ fn tops() -> Tally {
     t.counted(found(b"\x88\x81\x02\x00\x02\x07\x00\x01\x01\x00\x00\x11", 2))
 }
 
+// Held rules: One's rule, which empties the stack; a target that is passed inside a held stretch alone; Two with A's rule 0 held, which
+// needs no other step, with A's rule 1 and with B's rule held, after which no step comes; both threads held, where B makes a step more;
+// and a top besides.
+fn held() -> Tally {
+    let one = *b"\x4B\x02\x01\x81\x04\x01\x00\x00\x00\x00\x00\x00\x00\x01\x01\x00\x01";
+    let inside =
+        *b"\x4B\x02\x01\x81\x04\x01\x00\x00\x00\x00\x00\x00\x00\x02\x03\x00\x01\x00\x03\x10\x00\x01";
+    let mut t = Tally::new();
+    t = t.counted(cases::agrees(&one, cases::CLEAR, 0, b"\x05"));
+    t = t.counted(cases::agrees(&inside, cases::CLEAR, 0, b"\x05"));
+    t = t.counted(found(
+        b"\xC8\x83\x04\x01\x00\x00\x00\x00\x00\x00\x00\
+          \x03\x06\x00\x00\x00\x01\x00\x01\x01\x20\x03\x01\x03\x10\x02\x00",
+        4,
+    ));
+    t = t.counted(clear(
+        b"\xC8\x83\x04\x02\x00\x00\x00\x00\x00\x00\x00\
+          \x03\x06\x00\x00\x00\x01\x00\x01\x01\x20\x03\x01\x03\x10\x02\x00",
+    ));
+    t = t.counted(clear(
+        b"\xC8\x83\x08\x01\x00\x00\x00\x00\x00\x00\x00\
+          \x03\x06\x00\x00\x00\x01\x00\x01\x01\x20\x03\x01\x03\x10\x02\x00",
+    ));
+    t = t.counted(found(
+        b"\xC8\x83\x0C\x01\x00\x00\x00\x00\x00\x00\x00\x01\x00\x00\x00\x00\x00\x00\x00\
+          \x03\x06\x00\x00\x00\x01\x00\x01\x01\x20\x03\x02\x03\x10\x02\x00\x02\x20\x00",
+        5,
+    ));
+    t.counted(found(
+        b"\xC8\x83\x05\x00\x01\x00\x00\x00\x00\x00\x00\x00\
+          \x03\x06\x00\x00\x00\x01\x00\x01\x01\x20\x03\x01\x03\x10\x02\x00",
+        5,
+    ))
+}
+
 // Stores of just the size needed, and one byte less; models that no record holds: no states at all, a thread
-// with 65 rules, and a top that is no symbol.
+// with 65 rules, a top that is no symbol, and a mark on rule 63 of a thread with fewer rules.
 fn limits() -> Tally {
     let two = vectors::TWO;
     let once = vectors::TWO_ONCE;
@@ -73,6 +108,8 @@ fn limits() -> Tally {
     t = t.counted(cases::refuses(cases::with_b(m, 65), 4));
     t = t.counted(cases::refuses(cases::with_top_a(m, 16), 3));
     t = t.counted(cases::refuses(cases::with_top_b(m, 16), 3));
+    t = t.counted(cases::refuses(cases::with_a(cases::with_marks_a(m, 128), 63), 11));
+    t = t.counted(cases::refuses(cases::with_marks_b(m, 128), 11));
     let empty = record::read(&[]);
     t.counted(cases::refuses(empty.model, 3))
 }
@@ -119,6 +156,7 @@ fn files() {
 fn main() {
     document().report(b"document 01");
     tops().report(b"tops");
+    held().report(b"held rules");
     limits().report(b"stores and counts");
     files();
 }

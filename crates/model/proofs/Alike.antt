@@ -1,5 +1,6 @@
 -- Unused rule places change nothing: a rule that applies is in the list, so models that are the same make the same walks
 -- and runs, and have the same marked lines and the same verdict.
+use mathlib.Core.Bool.{Bool}
 use mathlib.Core.List.{List, [], _∷_}
 use mathlib.Core.Path.{_≡_, refl, sym, fun-ext}
 use Prim.Native.Nat.{ℕ, _<_}
@@ -23,7 +24,13 @@ use Rattle.model.proofs.Ranges.{valid-fits}
 -- Sameness goes both ways.
 back-thread : {t u : Thread} → SameThread t u → SameThread u t
 back-thread s =
-    record { first = sym (s .first); top = sym (s .top); count = sym (s .count); rules = λ r h. sym (s .rules r (rw (s .count) h)) }
+    record {
+      first = sym (s .first);
+      top = sym (s .top);
+      held = sym (s .held);
+      count = sym (s .count);
+      rules = λ r h. sym (s .rules r (rw (s .count) h));
+    }
 
 pub back : {m n : Model} → Same m n → Same n m
 back s =
@@ -47,6 +54,7 @@ fits {g} {h} {t} {u} e s f =
       top = rw (← s .top) (f .top);
       count = rw (← s .count) (f .count);
       rules = λ r k. let j : r < t .count = rw (s .count) k in rw (← e, ← s .rules r j) (f .rules r j);
+      free = λ r h k. rw (← s .held) (f .free r (rw (s .count) h) k);
     }
 
 -- A model that is the same as a valid one is valid.
@@ -71,7 +79,7 @@ same-fire {m} {n} e c s (top ∷ w) =
     let i = ownerOf (s .turn) in
     let t = thread-of e i in
     elim (decLt (s .rule) (threadOf i m .count)) [
-      | yes h ↦ rw (t .count, t .rules (s .rule) h)
+      | yes h ↦ rw (t .count, t .held, t .rules (s .rule) h)
       | no h ↦ rw (← t .count, le-ltb (s .rule) (threadOf i m .count) (omega arith))
     ]
 
@@ -103,8 +111,8 @@ same-least : {m n : Model} → Same m n → {k : ℕ} → AtLeast m k → AtLeas
 same-least s h ss l = h ss (same-reaches (back s) l)
 
 -- A run of one is a run of the other: a rule that applies is in the list, and there it is the same one.
-same-turns : {m n : Model} → Same m n → {t q : ℕ} {σ τ : Stacks} {line : List ℕ} {ss : List Step}
-    → Turns m t q σ line ss τ → Turns n t q σ line ss τ
+same-turns : {m n : Model} → Same m n → {t q : ℕ} {held : Bool} {σ τ : Stacks} {line : List ℕ} {ss : List Step}
+    → Turns m t held q σ line ss τ → Turns n t held q σ line ss τ
 same-turns s stop = stop
 same-turns s (end r) = end (same-turns s r)
 same-turns {m} {n} s {t} {q} (move {r = r} {top = top} e p rest) =
@@ -113,7 +121,7 @@ same-turns {m} {n} s {t} {q} (move {r = r} {top = top} e p rest) =
     let same = i .rules r (a .listed) in
     let applied : Applies (threadOf (ownerOf t) n) r q top =
     record { listed = rw (← i .count) (a .listed); state = rw (← same) (a .state); symbol = rw (← same) (a .symbol) } in
-    move e (applies-iff (threadOf (ownerOf t) n) r q top .1 applied) (rw same at (same-turns s rest))
+    move e (applies-iff (threadOf (ownerOf t) n) r q top .1 applied) (rw (same, i .held) at (same-turns s rest))
 
 -- Models that are the same have the same marked lines.
 pub same-marked : {m n : Model} → Same m n → {line : List ℕ} → Marked m line → Marked n line

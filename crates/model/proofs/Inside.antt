@@ -1,5 +1,6 @@
 -- A run of a valid model stays within its states, since a rule that applies leads to a state below G: so each marked line
 -- that is short enough has a place in the line table.
+use mathlib.Core.Bool.{Bool}
 use mathlib.Core.List.{List}
 use mathlib.Core.Logic.{_↔_}
 use mathlib.Core.Path.{_≡_}
@@ -39,8 +40,8 @@ fits-of f A = f .a
 fits-of f B = f .b
 
 -- The line of a run has only states below G.
-pub inside : {m : Model} → Valid m → {t g : ℕ} {σ τ : Stacks} {line : List ℕ} {ss : List Step}
-    → g < m .g → Turns m t g σ line ss τ → States (m .g) line
+pub inside : {m : Model} → Valid m → {t g : ℕ} {held : Bool} {σ τ : Stacks} {line : List ℕ} {ss : List Step}
+    → g < m .g → Turns m t held g σ line ss τ → States (m .g) line
 inside v h stop = tt
 inside v h (end r) = (h, inside v h r)
 inside {m} v {t = t} {g = g} h (move {r = r} {top = top} e p rest) =

@@ -2,6 +2,7 @@ pub mod Alike
 pub mod Checks
 pub mod Granted
 pub mod Inside
+pub mod Marks
 pub mod Owners
 pub mod Positions
 pub mod Ranges

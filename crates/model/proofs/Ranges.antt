@@ -4,7 +4,7 @@ use mathlib.Core.Bool.{Bool, true, false}
 use mathlib.Core.List.{List, [], _∷_, map}
 use mathlib.Core.Logic.{_↔_, Iff·rfl}
 use mathlib.Core.Path.{_≡_, refl}
-use Prim.Native.Nat.{ℕ, zero, suc, _≤_, _<_}
+use Prim.Native.Nat.{ℕ, zero, suc, _+_, _-_, _≤_, _<_}
 use native.Mathlib.Omega.{arith}
 use lib.Dec.{T, ltb}
 use borrow.Author.Tests.{ltb-true}
@@ -18,9 +18,10 @@ use Rattle.model.specs.declared.Top.{Top}
 use Rattle.model.specs.declared.Top.the-variants.{Any, Named}
 use Rattle.model.specs.Fits.{RightFits, RuleFits, TopFits, Fits}
 use Rattle.model.specs.Results.{refuse, firstOf}
-use Rattle.model.specs.Rules.{ruleAt, zeroRule}
+use Rattle.model.specs.Rules.{ruleAt, zeroRule, heldAt}
+use Rattle.model.proofs.Marks.{free}
 use Rattle.model.proofs.Tests.{tests}
-use Rattle.model.specs.Valid.{rangeFault, topFault, headFault, symbolFault, rightFault, ruleFault, threadFault, faultOf, Valid}
+use Rattle.model.specs.Valid.{rangeFault, topFault, headFault, symbolFault, rightFault, ruleFault, threadFault, freeFrom, markFault, faultOf, Valid}
 
 -- No fault of checks in order is no fault of the first and none of the others.
 none : (n : ℕ) (ns : List ℕ) → (firstOf (n ∷ ns) ≡ 0) ↔ ((n ≡ 0) × (firstOf ns ≡ 0))
@@ -85,6 +86,15 @@ thread g p t =
       λ f. simp checks (f .0, (each .1 (λ r k. rule g (ruleAt t r) .1 (f .1 r k)), refl)),
     )
 
+-- No mark that the list lacks, where the list is not too long.
+marks : (t : Thread) → t .count ≤ 64 → (markFault t ≡ 0) ↔ ((r : ℕ) → t .count ≤ r → r < 64 → heldAt t r ≡ false)
+unfolding markFault
+marks t h =
+    let all : t .count + (64 - t .count) ≡ 64 = omega arith in
+    let each = rw all at (free t (64 - t .count) (t .count)) in
+    let none = passes 11 (freeFrom t (t .count) (64 - t .count)) refl in
+    (λ e. each .0 (none .0 e), λ f. none .1 (each .1 f))
+
 -- A model is valid exactly if every used place of it is in range.
 pub valid-fits : (m : Model) → Valid m ↔ Fits m
 unfolding faultOf headFault rangeFault firstOf
@@ -96,17 +106,21 @@ valid-fits m = (
       let g = range .0 in
       let a = thread (m .g) (g .0) (m .a) .0 (z .1 .0) in
       let b = thread (m .g) (g .0) (m .b) .0 (z .1 .1 .0) in
+      let freeA = marks (m .a) (a .0) .0 (z .1 .1 .1 .0) in
+      let freeB = marks (m .b) (b .0) .0 (z .1 .1 .1 .1 .0) in
       record {
         g = g;
         k = range .1 .0;
         start = range .1 .1 .0;
         target = range .1 .1 .1 .0;
-        a = record { first = head .1 .1 .0; top = head .0; count = a .0; rules = a .1 };
-        b = record { first = head .1 .1 .1 .0; top = head .1 .0; count = b .0; rules = b .1 };
+        a = record { first = head .1 .1 .0; top = head .0; count = a .0; rules = a .1; free = freeA };
+        b = record { first = head .1 .1 .1 .0; top = head .1 .0; count = b .0; rules = b .1; free = freeB };
       },
   λ f.
       let a = thread (m .g) (f .g .0) (m .a) .1 (f .a .count, f .a .rules) in
       let b = thread (m .g) (f .g .0) (m .b) .1 (f .b .count, f .b .rules) in
+      let freeA = marks (m .a) (f .a .count) .1 (f .a .free) in
+      let freeB = marks (m .b) (f .b .count) .1 (f .b .free) in
       simp (checks, top)
-      (((f .g, (f .k, (f .start, (f .target, refl)))), (f .a .top, (f .b .top, (f .a .first, (f .b .first, refl))))), (a, (b, refl))),
+      (((f .g, (f .k, (f .start, (f .target, refl)))), (f .a .top, (f .b .top, (f .a .first, (f .b .first, refl))))), (a, (b, (freeA, (freeB, refl))))),
 )

@@ -1,5 +1,5 @@
--- One step of the walk, read both ways: a step is made exactly if its turn number fits, its thread's stack has a top and
--- its rule applies there.
+-- One step of the walk, read both ways: a step is made exactly if its turn number fits, no turn is left after a
+-- held step, its thread's stack has a top and its rule applies there.
 use mathlib.Core.List.{List, [], _∷_}
 use mathlib.Core.Path.{_≡_, refl}
 use Prim.Native.Nat.{ℕ, _*_, _≤_, _<_}
@@ -8,7 +8,7 @@ use borrow.Author.Tests.{le-leb, lt-ltb}
 use Rattle.model.specs.declared.Model.{Model}
 use Rattle.model.specs.Results.{accepted}
 use Rattle.model.specs.Rules.{applies}
-use Rattle.model.specs.Walk.{ownerOf, threadOf, stackOf, Config, Step, turnFits, after, fire, stepFrom}
+use Rattle.model.specs.Walk.{ownerOf, threadOf, stackOf, Config, Step, turnFits, turnFree, after, fire, stepFrom}
 use Rattle.model.proofs.Results.{apart, checked}
 use Rattle.model.proofs.Tests.{passed, both}
 
@@ -16,6 +16,7 @@ use Rattle.model.proofs.Tests.{passed, both}
 pub record Stepped (m : Model) (c : Config) (s : Step) (d : Config) : Type 0 where
   pub later : c .turn ≤ s .turn
   pub early : s .turn < 2 * m .k
+  pub free : T (turnFree c s)
   pub top : ℕ
   pub below : List ℕ
   pub stack : stackOf (ownerOf (s .turn)) (c .stacks) ≡ top ∷ below
@@ -29,6 +30,7 @@ steps {m} {c} {s} {d} h =
     rw (
       le-leb _ _ (h .later),
       lt-ltb _ _ (h .early),
+      passed (turnFree c s) (h .free),
       h .stack,
       passed (applies (threadOf (ownerOf (s .turn)) m) (s .rule) (c .shared) (h .top)) (h .rule),
       h .come,
@@ -51,10 +53,12 @@ unfolding stepFrom turnFits
 stepped {m} {c} {s} {d} e =
     checked 9 (turnFits m c s) e λ h k.
     let t = both (leb (c .turn) (s .turn)) (ltb (s .turn) (2 * m .k)) .0 h in
-    let f = fired m c s (stackOf (ownerOf (s .turn)) (c .stacks)) k in
+    checked 12 (turnFree c s) k λ free l.
+    let f = fired m c s (stackOf (ownerOf (s .turn)) (c .stacks)) l in
     record {
       later = leb→le _ _ (t .0);
       early = ltb→lt _ _ (t .1);
+      free = free;
       top = f .0;
       below = f .1;
       stack = f .2;

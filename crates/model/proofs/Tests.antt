@@ -1,5 +1,5 @@
 -- Tests read as facts: a test that is computed passes exactly if what it tests holds.
-use mathlib.Core.Bool.{Bool, true, false, _&&_}
+use mathlib.Core.Bool.{Bool, true, false, not, _&&_}
 use mathlib.Core.Logic.{_↔_}
 use mathlib.Core.Path.{_≡_, refl, subst}
 use Prim.Native.Nat.{ℕ, _≤_}
@@ -21,6 +21,11 @@ failed false h = refl
 pub both : (a b : Bool) → T (a && b) ↔ (T a × T b)
 both true b = (λ h. (tt, h), λ h. h .1)
 both false b = (λ h. absurd h, λ h. h .0)
+
+-- The negation of a test passes exactly if the test is false.
+pub negated : (b : Bool) → T (not b) ↔ (b ≡ false)
+negated true = (λ h. absurd h, λ e. subst T e tt)
+negated false = (λ h. refl, λ e. tt)
 
 -- An order, and a strict one, `ltb a b` being `leb (suc a) b`.
 pub order : (a b : ℕ) → T (leb a b) ↔ (a ≤ b)

@@ -1,9 +1,10 @@
--- What a rule does: when it applies, and the stack it leaves. Stacks are lists of symbols with the top first.
+-- What a rule does: when it applies, the stack it leaves, and whether a turn may end after it. Stacks are lists of symbols with the top first.
 use mathlib.Core.Bool.{Bool, _&&_}
 use mathlib.Core.List.{List, _∷_}
 use Prim.Native.Nat.{ℕ}
 use lib.Dec.{ltb, eqb}
 use lib.ListN.{getD}
+use Rattle.model.specs.Bits.{bitAt}
 use Rattle.model.specs.declared.Right.{Right}
 use Rattle.model.specs.declared.Right.the-variants.{Remove, Swap, Push}
 use Rattle.model.specs.declared.Rule.{Rule}
@@ -28,3 +29,7 @@ abbrev pub put : Right → List ℕ → List ℕ
 put Remove w = w
 put (Swap a) w = a .0 ∷ w
 put (Push a b) w = a .0 ∷ b .0 ∷ w
+
+-- Rule r is held: no turn ends right after it.
+abbrev pub heldAt : Thread → ℕ → Bool
+heldAt t r = bitAt (t .held) r

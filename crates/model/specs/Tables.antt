@@ -3,17 +3,13 @@ use mathlib.Core.Bool.{Bool, false}
 use mathlib.Core.List.{List}
 use mathlib.Core.Logic.{_↔_}
 use mathlib.Core.Path.{_≡_}
-use Prim.Native.Nat.{ℕ, _+_, _*_, _/_, _%_, _≤_, _<_}
+use Prim.Native.Nat.{ℕ, _+_, _*_, _/_, _≤_, _<_}
 use lib.Dec.{T, leb}
-use lib.ListN.{length, getD, drop}
+use lib.ListN.{length, drop}
 use Rattle.model.specs.declared.Model.{Model}
-use Rattle.model.specs.Bits.{bit}
+use Rattle.model.specs.Bits.{bitAt}
 use Rattle.model.specs.Lines.{Line, bits, position}
 use Rattle.model.specs.Runs.{Marked}
-
--- Bit p of a store stands: in byte p div 8, lowest bit first.
-abbrev pub bitAt : List ℕ → ℕ → Bool
-bitAt store p = bit (p % 8) (getD store (p / 8) 0)
 
 -- How many bytes hold the bits of a model with these G and K.
 abbrev pub bytesFor : ℕ → ℕ → ℕ

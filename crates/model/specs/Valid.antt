@@ -1,8 +1,8 @@
 -- Which models are valid, which refusal number a model handed in as values gets, and when two models are the same.
-use mathlib.Core.Bool.{Bool, _&&_}
+use mathlib.Core.Bool.{Bool, true, not, _&&_}
 use mathlib.Core.List.{[], _∷_, map}
 use mathlib.Core.Path.{_≡_}
-use Prim.Native.Nat.{ℕ, _<_}
+use Prim.Native.Nat.{ℕ, zero, suc, _-_, _<_}
 use lib.Dec.{leb, ltb}
 use lib.ListN.{length, take}
 use Rattle.model.specs.declared.Model.{Model}
@@ -14,7 +14,7 @@ use Rattle.model.specs.declared.Thread.{Thread}
 use Rattle.model.specs.declared.Top.{Top}
 use Rattle.model.specs.declared.Top.the-variants.{Any, Named}
 use Rattle.model.specs.Results.{refuse, firstOf}
-use Rattle.model.specs.Rules.{ruleAt}
+use Rattle.model.specs.Rules.{ruleAt, heldAt}
 
 -- A top that is named is a symbol, so at most 15.
 unfoldable pub topFault : Top → ℕ
@@ -57,9 +57,21 @@ unfoldable pub threadFault : ℕ → Thread → ℕ
 threadFault g t =
     firstOf (refuse 4 (leb (t .count) 64) ∷ firstOf (map (ruleFault g) (take (t .count) (t .rules))) ∷ [])
 
--- The refusal number of a model handed in as values: its head by 3, then A's rules by 4, then B's by 4; 0 for none.
+-- None of n rule numbers from r on is held.
+unfoldable pub freeFrom : Thread → ℕ → ℕ → Bool
+freeFrom t r zero = true
+freeFrom t r (suc n) = not (heldAt t r) && freeFrom t (suc r) n
+
+-- A rule number that the thread's list lacks is not held: of 64, those from its count on.
+unfoldable pub markFault : Thread → ℕ
+markFault t = refuse 11 (freeFrom t (t .count) (64 - t .count))
+
+-- The refusal number of a model handed in as values: its head by 3, then A's rules by 4, then B's by 4, then A's marks of held rules
+-- by 11, then B's by 11; 0 for none.
 unfoldable pub faultOf : Model → ℕ
-faultOf m = firstOf (headFault m ∷ threadFault (m .g) (m .a) ∷ threadFault (m .g) (m .b) ∷ [])
+faultOf m =
+    firstOf
+    (headFault m ∷ threadFault (m .g) (m .a) ∷ threadFault (m .g) (m .b) ∷ markFault (m .a) ∷ markFault (m .b) ∷ [])
 
 -- The refusal of a call that fills a store: the model's fault, then 7 where a store has no room for what it must hold; 0
 -- for none.
@@ -74,6 +86,7 @@ Valid m = faultOf m ≡ 0
 pub record SameThread (t u : Thread) : Type 0 where
   pub first : t .first ≡ u .first
   pub top : t .top ≡ u .top
+  pub held : t .held ≡ u .held
   pub count : t .count ≡ u .count
   pub rules : (r : ℕ) → r < t .count → ruleAt t r ≡ ruleAt u r
 
@@ -86,7 +99,9 @@ pub record Same (m n : Model) : Type 0 where
   pub a : SameThread (m .a) (n .a)
   pub b : SameThread (m .b) (n .b)
 
--- A model has 64 rule places a thread, as the arrays of every model handed in do.
+-- A model has 64 rule places a thread and eight bytes of marks, as the arrays of every model handed in do.
 pub record Places (m : Model) : Type 0 where
   pub a : length (m .a .rules) ≡ 64
   pub b : length (m .b .rules) ≡ 64
+  pub heldA : length (m .a .held) ≡ 8
+  pub heldB : length (m .b .held) ≡ 8

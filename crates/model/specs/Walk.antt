@@ -1,5 +1,5 @@
--- Schedules, and the walk of one from the start, as replay makes it: the first bad step is refused by 9 or 10.
-use mathlib.Core.Bool.{Bool, true, false, _&&_}
+-- Schedules, and the walk of one from the start, as replay makes it: the first bad step is refused by 9, 12 or 10.
+use mathlib.Core.Bool.{Bool, true, false, not, _&&_, _||_}
 use mathlib.Core.List.{List, [], _∷_}
 use Prim.Native.Nat.{ℕ, zero, suc, _*_}
 use lib.Dec.{leb, ltb, eqb}
@@ -11,7 +11,7 @@ use Rattle.model.specs.declared.Top.the-variants.{Any, Named}
 use Rattle.model.specs.Results.{Result, refused, accepted, need, andThen}
 use Rattle.model.specs.declared.ThreadId.{ThreadId}
 use Rattle.model.specs.declared.ThreadId.the-variants.{A, B}
-use Rattle.model.specs.Rules.{ruleAt, applies, put}
+use Rattle.model.specs.Rules.{ruleAt, applies, put, heldAt}
 
 -- The other thread.
 abbrev pub other : ThreadId → ThreadId
@@ -47,9 +47,11 @@ abbrev pub withStack : ThreadId → List ℕ → Stacks → Stacks
 withStack A w σ = record { a = w; b = σ .b }
 withStack B w σ = record { a = σ .a; b = w }
 
--- A configuration: the turn of the last step (0 before the first), the shared state and the stacks.
+-- A configuration: the turn of the last step (0 before the first) and whether that step's rule is held, the shared state and the
+-- stacks.
 pub record Config : Type 0 where
   pub turn : ℕ
+  pub held : Bool
   pub shared : ℕ
   pub stacks : Stacks
 
@@ -59,7 +61,7 @@ startStacks m = record { a = m .a .first .0 ∷ []; b = m .b .first .0 ∷ [] }
 
 -- The configuration at the start.
 abbrev pub startOf : Model → Config
-startOf m = record { turn = 0; shared = m .start .0; stacks = startStacks m }
+startOf m = record { turn = 0; held = false; shared = m .start .0; stacks = startStacks m }
 
 -- A step of a schedule: the turn it is made in, and the number of the rule in that turn's thread's list.
 pub record Step : Type 0 where
@@ -74,11 +76,16 @@ Walked = Result Config
 unfoldable pub turnFits : Model → Config → Step → Bool
 turnFits m c s = leb (c .turn) (s .turn) && ltb (s .turn) (2 * m .k)
 
+-- No turn ends after a held step: the step before this one is not held, or it is in the same turn.
+unfoldable pub turnFree : Config → Step → Bool
+turnFree c s = not (c .held) || eqb (c .turn) (s .turn)
+
 -- The configuration after a step, where w is the stack of its thread without the top.
 abbrev pub after : Model → Config → Step → List ℕ → Config
 after m c s w =
     record {
       turn = s .turn;
+      held = heldAt (threadOf (ownerOf (s .turn)) m) (s .rule);
       shared = ruleOf m (s .turn) (s .rule) .after .0;
       stacks = withStack (ownerOf (s .turn)) (put (ruleOf m (s .turn) (s .rule) .right) w) (c .stacks);
     }
@@ -88,13 +95,15 @@ unfoldable pub fire : Model → Config → Step → List ℕ → Walked
 fire m c s [] = refused 10
 fire m c s (top ∷ w) = need 10 (applies (threadOf (ownerOf (s .turn)) m) (s .rule) (c .shared) top) (accepted (after m c s w))
 
--- One step of the walk: the turn number first (9), then the rule of that turn's thread (10).
+-- One step of the walk: the turn number first (9), then that no turn is left after a held step (12), then the rule of that turn's
+-- thread (10).
 unfoldable pub stepFrom : Model → Config → Step → Walked
-stepFrom m c s = need 9 (turnFits m c s) (fire m c s (stackOf (ownerOf (s .turn)) (c .stacks)))
+stepFrom m c s =
+    need 9 (turnFits m c s) (need 12 (turnFree c s) (fire m c s (stackOf (ownerOf (s .turn)) (c .stacks))))
 
--- The walk of a list of steps from a configuration; its first bad step gives the refusal.
+-- The walk of a list of steps from a configuration; its first bad step gives the refusal. It does not end after a held step (12).
 unfoldable pub walk : Model → Config → List Step → Walked
-walk m c [] = accepted c
+walk m c [] = need 12 (not (c .held)) (accepted c)
 walk m c (s ∷ ss) = andThen (stepFrom m c s) (λ d. walk m d ss)
 
 -- A stack has the top that is asked for: any stack where none is named, and else one with that symbol on top. An empty stack has no top.

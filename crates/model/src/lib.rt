@@ -1,7 +1,8 @@
 // A model: two threads with stacks (pushdown systems) that share one state, and the question asked of them.
 // What a model means (steps, runs, lines, verdicts) is defined in specs/.
 ghost use mathlib.Core.Path.{_≡_};
-ghost use Rattle.model.specs.Valid.{faultOf, headFault, rangeFault, topFault, threadFault, ruleFault, rightFault, symbolFault};
+ghost use Rattle.model.specs.Bits.{bitAt, allZero};
+ghost use Rattle.model.specs.Valid.{faultOf, headFault, rangeFault, topFault, threadFault, ruleFault, rightFault, symbolFault, markFault};
 ghost use Rattle.model.specs.Lines.{tableBits};
 
 // A shared state, 0 to G−1. Never a stack symbol, though both are numbered from 0.
@@ -31,11 +32,13 @@ pub enum Top {
     Named(Symbol),
 }
 
-// A thread: the symbol its stack holds at the start, what is asked of its top at the target, and its first `count` rules. The places
-// from `count` on are unused.
+// A thread: the symbol its stack holds at the start, what is asked of its top at the target, which of its rules are held, and its
+// first `count` rules. The places from `count` on are unused. Rule r is held where bit r mod 8 of byte r div 8 stands: no turn ends
+// right after it.
 pub struct Thread {
     pub first: Symbol,
     pub top: Top,
+    pub held: [u8; 8],
     pub count: usize,
     pub rules: [Rule; 64],
 }
@@ -85,7 +88,41 @@ pub fn fault(m: Model) -> u8
         return first;
     }
     let b = m.b;
-    thread_fault(g, b)
+    let second = thread_fault(g, b);
+    if second != 0 {
+        return second;
+    }
+    let third = mark_fault(a);
+    if third != 0 {
+        return third;
+    }
+    mark_fault(b)
+}
+
+// Whether marks have rule r held; none beyond 63 is.
+pub fn is_held(marks: [u8; 8], r: usize) -> bool
+    ensures { λ x. ⌜ x ≡ bitAt marks r ⌝ }
+{
+    if 64 <= r {
+        return false;
+    }
+    let byte = marks[r / 8];
+    let place = r % 8;
+    (byte >> place) % 2 == 1
+}
+
+// Whether no bit of a thread's marks stands.
+pub fn all_zero(marks: [u8; 8]) -> bool
+    ensures { λ x. ⌜ x ≡ allZero marks ⌝ }
+{
+    let mut i = 0;
+    while i < 8 {
+        if marks[i] != 0 {
+            return false;
+        }
+        i += 1;
+    }
+    true
 }
 
 // How many lines a model with these G and K has, or 0 where they are out of range.
@@ -237,4 +274,23 @@ fn symbol_fault(a: Symbol) -> u8
     ensures { λ n. ⌜ n ≡ symbolFault a ⌝ }
 {
     if 15 < a.0 { 4 } else { 0 }
+}
+
+// Refusal 11 for a mark at a rule number that the thread's list lacks.
+fn mark_fault(t: Thread) -> u8
+    ensures { λ n. ⌜ n ≡ markFault t ⌝ }
+{
+    let marks = t.held;
+    if all_zero(marks) {
+        return 0;
+    }
+    let mut r = t.count;
+    while r < 64 {
+        let marks = t.held;
+        if is_held(marks, r) {
+            return 11;
+        }
+        r += 1;
+    }
+    0
 }

@@ -1,6 +1,6 @@
 -- What a schedule that replay accepts gives the page: the walk makes every step, so each has its line, and the page has 73 bytes for
 -- each step and 73 for the foot.
-use mathlib.Core.Bool.{Bool}
+use mathlib.Core.Bool.{Bool, false}
 use mathlib.Core.List.{List, [], _∷_}
 use mathlib.Core.Path.{_≡_, refl, ap, _∙_}
 use Prim.Native.Nat.{ℕ, suc, _+_, _*_, _/_, _≤_}
@@ -41,7 +41,7 @@ module _ (m : Model) (l : List ℕ) {q : Shared} {reached : Bool} (e : replayOf 
 
   -- The walk of the schedule's bytes makes every step.
   walked : walk m (startOf m) (stepsOf l)
-      ≡ accepted (record { turn = legal .leads .turn; shared = q .0; stacks = legal .stacks })
+      ≡ accepted (record { turn = legal .leads .turn; held = false; shared = q .0; stacks = legal .stacks })
   walked =
       let same : stepsOf l ≡ legal .steps = ap stepsOf (legal .written) ∙ steps-bytes (legal .steps) in
       rw same (legal .leads .walked)

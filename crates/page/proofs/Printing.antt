@@ -8,14 +8,15 @@ use lib.ListN.{length, take, drop, length-drop}
 use lib.Seq.{drop-cons, length-take-le, length-sets}
 use Rattle.model.specs.declared.Model.{Model}
 use Rattle.model.specs.Fits.{Fits}
-use Rattle.model.specs.Results.{refused, accepted, andThen}
+use Rattle.model.specs.Results.{refused, accepted}
 use Rattle.model.specs.Schedules.{stepsOf, stepAt, stepsFrom}
-use Rattle.model.specs.Walk.{ownerOf, threadOf, Config, Step, Walked, stepFrom, walk}
+use Rattle.model.specs.Walk.{ownerOf, threadOf, Config, Step, stepFrom}
 use Rattle.model.proofs.Inside.{applies-iff, fits-of}
 use Rattle.model.proofs.Steps.{stepped}
 use Rattle.model.proofs.Stores.{first-step, short}
 use Rattle.walk.specs.declared.Walk.{Walk}
-use Rattle.walk.specs.Stack.{configOf, Counted, Room}
+use Rattle.walk.specs.Stack.{configOf, walkOn, Counted, Room}
+use Rattle.walk.proofs.Schedules.{walk-one}
 use Rattle.writer.specs.Put.{Put}
 use Rattle.writer.proofs.Puts.{nothing, _then_}
 use Rattle.page.specs.Page.{pageLine, pageLines}
@@ -33,18 +34,14 @@ two-bytes l i = let e : 2 * i + 2 - 2 * i ≡ 2 = omega arith in rw e
 one-step : (l : List ℕ) (i : ℕ) → i < length l / 2 → length (partAt l i) / 2 ≡ 1
 one-step l i h = rw (two-bytes l i, length-take-le 2 (drop (2 * i) l) (simp length-drop (omega arith)))
 
--- .. and walking it is making that step.
-walk-one : (m : Model) (c : Config) (l : List ℕ) (i : ℕ) → i < length l / 2
-    → walk m c (stepsOf (partAt l i)) ≡ stepFrom m c (stepAt l i)
-unfolding walk stepsOf
-walk-one m c l i h =
+-- .. and making its steps is making that step.
+run-one : (m : Model) (c : Config) (l : List ℕ) (i : ℕ) → i < length l / 2
+    → walkOn m c (stepsOf (partAt l i)) ≡ stepFrom m c (stepAt l i)
+unfolding stepsOf
+run-one m c l i h =
     let only : stepsOf (partAt l i) ≡ stepAt l i ∷ [] =
     rw (two-bytes l i, drop-cons l (2 * i) 0 (omega arith), drop-cons l (suc (2 * i)) 0 (omega arith), add-one) in
-    rw only (go (stepFrom m c (stepAt l i)))
-  where
-    go : (r : Walked) → andThen r (λ d. accepted d) ≡ r
-    go (refused n) = refl
-    go (accepted d) = refl
+    rw only (walk-one m c (stepAt l i))
 
 -- What a step that is made shows fits its columns.
 pub shows : (m : Model) (c : Config) (s : Step) {d : Config} (n : ℕ) → n < 10000 → Fits m → stepFrom m c s ≡ accepted d
@@ -100,8 +97,8 @@ module _ {m : Model} {l : List ℕ} {w : Walk} {a b s : List ℕ} {v : Walk} {c 
     (p : Printing m l w a b s v c d z at i) where
   -- Before the last, the next step is the part that is walked.
   module _ (h : i < length l / 2) where
-    step : walk m (configOf v c d) (stepsOf (partAt l i)) ≡ stepFrom m (configOf v c d) (stepAt l i)
-    step = walk-one m (configOf v c d) l i h
+    step : walkOn m (configOf v c d) (stepsOf (partAt l i)) ≡ stepFrom m (configOf v c d) (stepAt l i)
+    step = run-one m (configOf v c d) l i h
 
     -- There is room for it ..
     pub step-room : Counted m × Room (length (partAt l i) / 2) v c d
@@ -113,7 +110,7 @@ module _ {m : Model} {l : List ℕ} {w : Walk} {a b s : List ℕ} {v : Walk} {c 
         )
 
     -- .. and for its line, if it is made ..
-    pub line-room : (u : Walk) (c′ d′ : List ℕ) → accepted (configOf u c′ d′) ≡ walk m (configOf v c d) (stepsOf (partAt l i))
+    pub line-room : (u : Walk) (c′ d′ : List ℕ) → accepted (configOf u c′ d′) ≡ walkOn m (configOf v c d) (stepsOf (partAt l i))
         → (u .a ≤ v .a + length (partAt l i) / 2) × (u .b ≤ v .b + length (partAt l i) / 2)
         → length c′ ≡ length c → length d′ ≡ length d
         → StepFits (i + 1) (stepAt l i .turn) (stepAt l i .rule) (u .shared) ×
@@ -129,7 +126,7 @@ module _ {m : Model} {l : List ℕ} {w : Walk} {a b s : List ℕ} {v : Walk} {c 
         )
 
     -- .. which is put ..
-    pub printing-next : {u : Walk} {c′ d′ : List ℕ} → accepted (configOf u c′ d′) ≡ walk m (configOf v c d) (stepsOf (partAt l i))
+    pub printing-next : {u : Walk} {c′ d′ : List ℕ} → accepted (configOf u c′ d′) ≡ walkOn m (configOf v c d) (stepsOf (partAt l i))
         → (u .a ≤ v .a + length (partAt l i) / 2) × (u .b ≤ v .b + length (partAt l i) / 2)
         → length c′ ≡ length c → length d′ ≡ length d
         → {z′ : List ℕ} {at′ : ℕ} → Put z z′ at at′ (pageLine (i + 1) (stepAt l i) (configOf u c′ d′)) → at′ ≡ at + 73
@@ -154,7 +151,7 @@ module _ {m : Model} {l : List ℕ} {w : Walk} {a b s : List ℕ} {v : Walk} {c 
         }
 
     -- .. a step that is refused is the last ..
-    pub printing-stops : {n : ℕ} → refused n ≡ walk m (configOf v c d) (stepsOf (partAt l i))
+    pub printing-stops : {n : ℕ} → refused n ≡ walkOn m (configOf v c d) (stepsOf (partAt l i))
         → Put s z 0 at (pageLines m 1 (configOf w a b) (stepsOf l))
     unfolding pageLines
     printing-stops {n} e =

@@ -78,7 +78,7 @@ fn put_steps(
     while i < n {
         let from = 2 * i;
         let to = from + 2;
-        let next = match walk::steps(w, m, &schedule[from..to], a, b) {
+        let next = match walk::run(w, m, &schedule[from..to], a, b) {
             Stepped::Made(v) => v,
             Stepped::Refused(_) => return at,
         };

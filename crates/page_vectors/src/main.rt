@@ -8,6 +8,9 @@ const KEPT: u8 = 0xEE;
 // A model whose A pushes at every step: 0 comes above one more 1.
 const DEEP: [u8; 7] = *b"\x48\x01\x01\x06\x00\x00\x01";
 
+// Model One with its rule held, so that no turn may end after it.
+const HELD_ONE: [u8; 17] = *b"\x4B\x02\x01\x81\x04\x01\x00\x00\x00\x00\x00\x00\x00\x01\x01\x00\x01";
+
 // The length of the page of 4,095 steps, its last line of a step, and its foot.
 const LONGEST: usize = 299008;
 
@@ -116,7 +119,18 @@ fn many_rules() -> bool {
     }
 }
 
-// What is refused before 7: a model that is none (3), one with too many rules (4), and what replay refuses.
+// A model handed in with a held rule beyond its list is refused by 11.
+fn unlisted_mark() -> bool {
+    let reading = record::read(&HELD_ONE);
+    let mut m = reading.model;
+    m.a.count = 0;
+    match page::page(m, &[0], &mut []) {
+        Paged::Length(_) => false,
+        Paged::Refused(n) => n == 11,
+    }
+}
+
+// What is refused before 7: a model that is none (3), one with too many rules (4) or an unlisted mark (11), and what replay refuses.
 fn refused() -> Tally {
     let two = vectors::TWO;
     let once = vectors::TWO_ONCE;
@@ -124,10 +138,13 @@ fn refused() -> Tally {
     let mut t = Tally::new();
     t = t.counted(refuses(&[], &[0], 3, &mut []));
     t = t.counted(many_rules());
+    t = t.counted(unlisted_mark());
     t = t.counted(refuses(&two, &[0], 8, &mut []));
     t = t.counted(refuses(&two, &zeros, 8, &mut []));
     t = t.counted(refuses(&two, &[4, 0], 9, &mut []));
     t = t.counted(refuses(&once, &[2, 0], 9, &mut []));
+    t = t.counted(refuses(&HELD_ONE, &[0, 0], 12, &mut []));
+    t = t.counted(refuses(&HELD_ONE, &[0, 0, 1, 9], 12, &mut []));
     t = t.counted(refuses(&two, &[0, 2], 10, &mut []));
     t.counted(refuses(&two, &[], 7, &mut []))
 }

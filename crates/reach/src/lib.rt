@@ -4,10 +4,12 @@ ghost use Prim.Native.Nat.{_≤_};
 ghost use lib.ListN.{length};
 ghost use Rattle.model.specs.Fits.{Fits};
 ghost use Rattle.model.specs.Tables.{bytesFor, LineTable};
+ghost use Rattle.costs.specs.Lanes.{TableFor};
 ghost use Rattle.reach.specs.Answer.{outcomeOf, Leaves};
 use costs::LINES;
 use model::Model;
 use summary::cells::SIZE;
+use summary::cells::SMALL;
 
 // The answer to a call that fills a line table: done, or a refusal's number.
 pub enum Outcome {
@@ -28,14 +30,27 @@ pub fn lines(m: Model, store: &mut [u8]) -> Outcome
     Outcome::Done
 }
 
-// The line table of a model in range, into a store that has room for it.
+// The line table of a model in range, into a store that has room for it. Where no rule is held the smaller table will do.
 fn mark(m: Model, store: &mut [u8])
     requires { ⌜ Fits m ⌝ ∗ ⌜ bytesFor (m .g) (m .k) ≤ length (now store) ⌝ }
     ensures { λ _. ⌜ LineTable m (now (store .entry)) (now (store .exit)) ⌝ }
 {
+    if costs::room::is_free(m) {
+        let mut table = [0u16; SMALL];
+        fill(m, &mut table, store);
+        return;
+    }
     let mut table = [0u16; SIZE];
+    fill(m, &mut table, store);
+}
+
+// The same with a table for the search.
+fn fill(m: Model, table: &mut [u16], store: &mut [u8])
+    requires { ⌜ Fits m ⌝ ∗ ⌜ TableFor m (now table) ⌝ ∗ ⌜ bytesFor (m .g) (m .k) ≤ length (now store) ⌝ }
+    ensures { λ _. ⌜ LineTable m (now (store .entry)) (now (store .exit)) ⌝ }
+{
     let mut a = [0u16; LINES];
     let mut b = [0u16; LINES];
-    costs::lines(m, &mut table, &mut a, &mut b);
+    costs::lines(m, table, &mut a, &mut b);
     draw::draw(m, store, &a, &b);
 }

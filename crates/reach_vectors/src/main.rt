@@ -77,7 +77,26 @@ fn tops() -> Tally {
     ))
 }
 
+// No turn ends after a held step: One with its rule held; Two at K=1 with A's rule 1 held; and A through state 1 inside a held stretch.
+fn held() -> Tally {
+    let mut t = Tally::new();
+    t = t.counted(agrees(
+        b"\x4B\x02\x01\x81\x04\x01\x00\x00\x00\x00\x00\x00\x00\x01\x01\x00\x01",
+        b"\x05",
+    ));
+    t = t.counted(agrees(
+        b"\xCA\x01\x83\x04\x02\x00\x00\x00\x00\x00\x00\x00\
+          \x03\x06\x00\x00\x00\x01\x00\x01\x01\x20\x03\x01\x03\x10\x02\x00",
+        b"\x11\x00\x00",
+    ));
+    t.counted(agrees(
+        b"\x4B\x02\x01\x81\x04\x01\x00\x00\x00\x00\x00\x00\x00\x02\x03\x00\x01\x00\x03\x10\x00\x01",
+        b"\x05",
+    ))
+}
+
 fn main() {
     document().report(b"document 01");
     tops().report(b"tops");
+    held().report(b"held rules");
 }

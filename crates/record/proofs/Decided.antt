@@ -1,35 +1,37 @@
--- 653 bytes decide the answer to a record, and a record is refused by a number from 1 to 6, at the front of any bytes by 1 to 5:
--- every part of the reader is steady, part by part, and a record takes at most 652 bytes.
+-- 669 bytes decide the answer to a record, and a record is refused by a number from 1 to 6 or by 11, at the front of any bytes not by
+-- 6: every part of the reader is steady, part by part, and a record takes at most 668 bytes.
 use mathlib.Core.Bool.{Bool, true, false, not}
-use mathlib.Core.List.{List, [], _∷_}
+use mathlib.Core.List.{List, [], _∷_, _++_}
 use mathlib.Core.Path.{_≡_, refl}
-use Prim.Native.Nat.{ℕ, zero, suc, _*_, _/_, _≤_, zero-le}
+use Prim.Native.Nat.{ℕ, zero, suc, _-_, _*_, _/_, _≤_, _<_, zero-le}
 use native.Mathlib.Decide.{decLt}
 use native.Mathlib.Omega.{arith}
 use lib.Dec.{ltb, eqb}
-use lib.ListN.{length, take, drop, take-append-drop}
-use lib.Seq.{take-all, length-take-le}
+use lib.ListN.{length, take, drop, take-append-drop, length-append, length-drop}
+use lib.Seq.{take-all, length-take-le, take-append-le, drop-append-le}
+use borrow.Author.Tests.{le-leb, lt-leb}
 use Rattle.model.specs.declared.Model.{Model}
-use Rattle.model.specs.Bits.{bit}
-use Rattle.model.specs.Results.{refused, accepted}
+use Rattle.model.specs.Bits.{bit, allZero}
+use Rattle.model.specs.Results.{refused, accepted, need, unless, refuse, firstOf}
+use Rattle.model.specs.Valid.{freeFrom, markFault}
 use Rattle.record.specs.Reader.{Read, andRead, inRange, parseRanged, parseField, ruleMap, parseRight, parseRule}
-use Rattle.record.specs.Reader.{announces, stateOf, parseTarget, parseTop, parseSecond}
-use Rattle.record.specs.Reader.{parseRuleList, parseRules, parseHead, parseFront, ended, readOf}
+use Rattle.record.specs.Reader.{announces, stateOf, parseTarget, parseTop, parseMarks, parseSecond}
+use Rattle.record.specs.Reader.{parseRuleList, parseRules, parseHead, modelOf, marksFault, marksListed, parseFront, ended, readOf}
 use Rattle.record.proofs.OneField.{field-forth}
 use Rattle.record.proofs.Steady.{Low, Takes, before, Steady, none, one, tested, wider, chained}
 
 -- The numbers that the reader refuses by.
 two : Low 2
-two = (omega arith, omega arith)
+two = omega arith
 
 three : Low 3
-three = (omega arith, omega arith)
+three = omega arith
 
 four : Low 4
-four = (omega arith, omega arith)
+four = omega arith
 
 five : Low 5
-five = (omega arith, omega arith)
+five = omega arith
 
 ranged : (k low limit : ℕ) → Low k → Steady 1 (parseRanged k low limit)
 unfolding parseRanged
@@ -78,13 +80,40 @@ unfolding parseTop
 top false = wider zero-le (none _)
 top true = chained (ranged 3 0 16 three) λ bs x rest e. none _
 
-second : (present : Bool) → Steady 3 (parseSecond present)
+marks : (present : Bool) → Steady 8 (parseMarks present)
+unfolding parseMarks
+marks false = wider zero-le (none _)
+marks true = record { takes = takes; decided = decided-by }
+  where
+    takes : (bs : List ℕ) → Takes (length bs) 8 (parseMarks true bs)
+    takes bs = elim (decLt (length bs) 8) [
+      | yes h ↦ rw (lt-leb 8 (length bs) h) (omega arith)
+      | no h ↦ rw (le-leb 8 (length bs) (omega arith)) (go (not (allZero (take 8 bs))))
+    ]
+      where
+        go : (test : Bool) → Takes (length bs) 8 (need 5 test (accepted (take 8 bs, drop 8 bs)))
+        go true = simp length-drop (omega arith)
+        go false = five
+
+    decided-by : (bs more : List ℕ) → 8 ≤ length bs → parseMarks true (bs ++ more) ≡ before more (parseMarks true bs)
+    decided-by bs more h =
+        let room : 8 ≤ length (bs ++ more) = simp length-append (omega arith) in
+        rw (le-leb 8 (length (bs ++ more)) room, le-leb 8 (length bs) h, take-append-le 8 bs more h, drop-append-le 8 bs more h)
+        (go (not (allZero (take 8 bs))))
+      where
+        go : (test : Bool) → need 5 test (accepted (take 8 bs, drop 8 bs ++ more)) ≡ before more (need 5 test (accepted (take 8 bs, drop 8 bs)))
+        go true = refl
+        go false = refl
+
+second : (present : Bool) → Steady 19 (parseSecond present)
 unfolding parseSecond
 second present =
-    chained (field present 3 0 4 0 three) λ bs map rest e.
-    chained (top (bit 0 map)) λ bs a rest e. chained (top (bit 1 map)) λ bs b rest e. none _
+    chained (field present 3 0 16 0 three) λ bs map rest e.
+    chained (top (bit 0 map)) λ bs ta rest e.
+    chained (top (bit 1 map)) λ bs tb rest e.
+    chained (marks (bit 2 map)) λ bs ha rest e. chained (marks (bit 3 map)) λ bs hb rest e. none _
 
-head : Steady 10 parseHead
+head : Steady 26 parseHead
 unfolding parseHead
 head =
     chained one λ bs map rest e.
@@ -97,42 +126,60 @@ head =
     chained (field (bit 4 map) 3 0 16 0 three) λ bs a rest e.
     chained (field (bit 5 map) 3 0 16 0 three) λ bs b rest e. none _)
 
--- A record at the front takes at most 652 bytes, 10 + 2 · 321, and they decide it.
-pub front : Steady 652 parseFront
+-- Marks on rules that a list lacks are refused by 11, ..
+marks-refusal : (m : Model) → 0 < marksFault m → marksFault m ≡ 11
+unfolding marksFault markFault firstOf
+marks-refusal m = go (freeFrom (m .a) (m .a .count) (64 - m .a .count)) (freeFrom (m .b) (m .b .count) (64 - m .b .count))
+  where
+    go : (a b : Bool) → 0 < firstOf (refuse 11 a ∷ refuse 11 b ∷ []) → firstOf (refuse 11 a ∷ refuse 11 b ∷ []) ≡ 11
+    go true true h = absurd (omega arith)
+    go true false h = refl
+    go false b h = refl
+
+-- .. and no byte is taken.
+listed : (m : Model) → Steady 0 (marksListed m)
+listed m = go (marksFault m) (marks-refusal m)
+  where
+    go : (n : ℕ) → (0 < n → n ≡ 11) → Steady 0 (λ bs. unless n (accepted (m, bs)))
+    go zero h = none m
+    go (suc n) h = let e = h (omega arith) in record { takes = λ bs. omega arith; decided = λ bs more l. refl }
+
+-- A record at the front takes at most 668 bytes, 26 + 2 · 321, and they decide it.
+pub front : Steady 668 parseFront
 unfolding parseFront
 front =
     chained head λ bs h rest e.
     chained (rules (bit 6 (h .map)) (h .g)) λ bs ra rest e.
-    chained (rules (bit 7 (h .map)) (h .g)) λ bs rb rest e. none _
+    chained (rules (bit 7 (h .map)) (h .g)) λ bs rb rest e. listed (modelOf h ra rb)
 
 -- The refusal of a record at the front ..
 pub front-refusal : (bs : List ℕ) {n : ℕ} → parseFront bs ≡ refused n → Low n
 front-refusal bs {n} e = rw e at (front .takes bs)
 
 -- .. and of a whole one.
-pub record-refusal : (bs : List ℕ) {n : ℕ} → readOf bs ≡ refused n → (1 ≤ n) × (n ≤ 6)
+pub record-refusal : (bs : List ℕ) {n : ℕ} → readOf bs ≡ refused n → (1 ≤ n) × (n ≤ 11) × (6 < n → n ≡ 11)
 unfolding readOf
 record-refusal bs {n} = go (parseFront bs) (front .takes bs)
   where
-    go : (r : Read Model) → Takes (length bs) 652 r → andRead r ended ≡ refused n → (1 ≤ n) × (n ≤ 6)
-    go (refused k) t e = let same : k ≡ n = cc in let low = rw same at t in (low .0, omega (arith, low .1))
+    go : (r : Read Model) → Takes (length bs) 668 r → andRead r ended ≡ refused n → (1 ≤ n) × (n ≤ 11) × (6 < n → n ≡ 11)
+    go (refused k) t e = let same : k ≡ n = cc in let low = rw same at t in (low .0, low .1, λ h. low .2 (omega arith))
     go (accepted (m, [])) t e = let z : _≡_ {A = ℕ} 0 1 = cc in absurd (omega arith)
-    go (accepted (m, b ∷ rest)) t e = let six : _≡_ {A = ℕ} 6 n = cc in (omega arith, omega arith)
+    go (accepted (m, b ∷ rest)) t e = let six : _≡_ {A = ℕ} 6 n = cc in omega arith
 
--- A byte is left of 653, and more behind it changes nothing.
-left-over : (more : List ℕ) (r : Read Model) → Takes 653 652 r → andRead (before more r) ended ≡ andRead r ended
+-- A byte is left of 669, and more behind it changes nothing.
+left-over : (more : List ℕ) (r : Read Model) → Takes 669 668 r → andRead (before more r) ended ≡ andRead r ended
 left-over more (refused n) t = refl
 left-over more (accepted (m, [])) t = absurd (omega arith)
 left-over more (accepted (m, b ∷ rest)) t = refl
 
--- The first 653 bytes decide the answer.
-pub decided : (bs : List ℕ) → readOf bs ≡ readOf (take 653 bs)
+-- The first 669 bytes decide the answer.
+pub decided : (bs : List ℕ) → readOf bs ≡ readOf (take 669 bs)
 unfolding readOf
-decided bs = elim (decLt 653 (length bs)) [
+decided bs = elim (decLt 669 (length bs)) [
   | yes h ↦
-      let size : length (take 653 bs) ≡ 653 = length-take-le 653 bs (omega arith) in
-      let first : parseFront bs ≡ before (drop 653 bs) (parseFront (take 653 bs)) =
-      rw take-append-drop at (front .decided (take 653 bs) (drop 653 bs) (omega arith)) in
-      rw first (left-over (drop 653 bs) (parseFront (take 653 bs)) (rw size at (front .takes (take 653 bs))))
-  | no h ↦ rw (take-all 653 bs (omega arith))
+      let size : length (take 669 bs) ≡ 669 = length-take-le 669 bs (omega arith) in
+      let first : parseFront bs ≡ before (drop 669 bs) (parseFront (take 669 bs)) =
+      rw take-append-drop at (front .decided (take 669 bs) (drop 669 bs) (omega arith)) in
+      rw first (left-over (drop 669 bs) (parseFront (take 669 bs)) (rw size at (front .takes (take 669 bs))))
+  | no h ↦ rw (take-all 669 bs (omega arith))
 ]

@@ -10,16 +10,17 @@ use lib.Dec.{T, eqb}
 use lib.ListN.{length, getD}
 use Rattle.model.specs.declared.Model.{Model}
 use Rattle.model.specs.Bits.{bit, oneIf}
-use Rattle.model.specs.Fits.{TopFits, Fits}
+use Rattle.model.specs.Fits.{Fits}
 use Rattle.model.specs.Results.{accepted}
+use Rattle.model.specs.Valid.{Places}
 use Rattle.model.proofs.Results.{checked}
 use Rattle.model.proofs.Tests.{passed}
-use Rattle.record.specs.declared.Second.{Second}
 use Rattle.record.specs.Older.{targetByte}
 use Rattle.record.specs.Reader.{parseByte, parseField, announces, stateOf, parseTarget, parseSecond, Head, parseHead}
-use Rattle.writer.specs.Writer.{fieldOf, weightOf, mapOf, secondMap, targetBytes}
+use Rattle.writer.specs.Writer.{fieldOf, weightOf, mapOf, Second, secondOf, secondMap, targetBytes}
 use Rattle.record.proofs.OneField.{parted, carried, byte-forth, field-back, FieldRead, field-forth}
-use Rattle.record.proofs.Tops.{marked, unmarked, target-back, target-forth, target-with, second-back, SecondRead, second-forth}
+use Rattle.record.proofs.Tops.{flagged, unflagged, target-back, target-forth, target-with}
+use Rattle.record.proofs.Tops.{ExtraFits, second-back, SecondRead, second-forth}
 use Rattle.record.proofs.Maps.{HeadBits, head-bits}
 
 -- The head of a model.
@@ -31,7 +32,7 @@ headOf m =
       k = m .k;
       start = m .start .0;
       target = m .target .0;
-      second = record { a = m .a .top; b = m .b .top };
+      second = secondOf m;
       a = m .a .first .0;
       b = m .b .first .0;
     }
@@ -40,7 +41,7 @@ headOf m =
 unfoldable pub headWith : Head → List ℕ → List ℕ
 headWith h rest =
     h .map ∷ (fieldOf 4 (h .g) ++ (fieldOf 2 (h .k) ++ (fieldOf 0 (h .start) ++
-    (targetBytes (h .target) (h .second .a) (h .second .b) ++ (fieldOf 0 (h .a) ++ (fieldOf 0 (h .b) ++ rest))))))
+    (targetBytes (h .target) (h .second) ++ (fieldOf 0 (h .a) ++ (fieldOf 0 (h .b) ++ rest))))))
 
 -- The bits of a model's map.
 pub map-bits : (m : Model)
@@ -49,17 +50,19 @@ unfolding mapOf weightOf
 map-bits m = head-bits (eqb (m .g) 4) (eqb (m .k) 2) (eqb (m .start .0) 0) (eqb (m .a .first .0) 0) (eqb (m .b .first .0) 0) (eqb (m .a .count) 0) (eqb (m .b .count) 0)
 
 -- A head that is written is read.
-pub head-back : (m : Model) → Fits m → (rest : List ℕ) → parseHead (headWith (headOf m) rest) ≡ accepted (headOf m, rest)
+pub head-back : (m : Model) → Fits m → Places m → (rest : List ℕ) → parseHead (headWith (headOf m) rest) ≡ accepted (headOf m, rest)
 unfolding parseHead parseByte headWith headOf
-head-back m f rest =
+head-back m f p rest =
     let b = map-bits m in
     let g : m .g < 5 = omega (arith, f .g .1) in
     let k : m .k < 4 = omega (arith, f .k .1) in
     let first : m .a .first .0 < 16 = omega (arith, f .a .first) in
     let second : m .b .first .0 < 16 = omega (arith, f .b .first) in
     let low : m .target .0 < 128 = omega (arith, f .target, f .g .1) in
-    let map = secondMap (m .a .top) (m .b .top) in
-    let target = marked (m .target .0) map low in
+    let map = secondMap (secondOf m) in
+    let target = flagged (m .target .0) map low in
+    let extraA : ExtraFits (secondOf m .a) = record { top = f .a .top; held = p .heldA } in
+    let extraB : ExtraFits (secondOf m .b) = record { top = f .b .top; held = p .heldB } in
     rw (
       b .bit3,
       field-back 3 4 (m .g) _ (b .bit0) (f .g .0) g,
@@ -68,7 +71,7 @@ head-back m f rest =
       target-with,
       target-back map _ (f .target) low,
       target .0,
-      second-back (m .a .top) (m .b .top) (f .a .top) (f .b .top) _ (target .1),
+      second-back (secondOf m) extraA extraB _ (target .1),
       field-back 3 0 (m .a .first .0) _ (b .bit4) zero-le first,
       field-back 3 0 (m .b .first .0) _ (b .bit5) zero-le second,
     )
@@ -111,9 +114,9 @@ pub record HeadRead (bs : List ℕ) (h : Head) (rest : List ℕ) : Type 0 where
   pub k : (1 ≤ h .k) × (h .k ≤ 3)
   pub start : h .start < h .g
   pub target : h .target < h .g
-  pub topA : TopFits (h .second .a)
-  pub topB : TopFits (h .second .b)
-  pub announced : announces (targetByte bs) ≡ not (eqb (secondMap (h .second .a) (h .second .b)) 0)
+  pub extraA : ExtraFits (h .second .a)
+  pub extraB : ExtraFits (h .second .b)
+  pub announced : announces (targetByte bs) ≡ not (eqb (secondMap (h .second)) 0)
   pub first : h .a ≤ 15
   pub second : h .b ≤ 15
 
@@ -133,7 +136,7 @@ head-made {map} {target = target} e t g k s d n a b =
             ← a .bytes,
             target-with,
             ← n .bytes,
-            unmarked target _ (n .stands),
+            unflagged target _ (n .stands),
             ← d .0,
             ← s .bytes,
             ← k .bytes,
@@ -153,8 +156,8 @@ head-made {map} {target = target} e t g k s d n a b =
       k = (k .least, omega (arith, k .most));
       start = s .most;
       target = d .1;
-      topA = n .a;
-      topB = n .b;
+      extraA = n .a;
+      extraB = n .b;
       announced = rw (target-place e g k s, d .0) (n .stands);
       first = omega (arith, a .most);
       second = omega (arith, b .most);

@@ -2,6 +2,7 @@ pub mod Answers
 pub mod Decided
 pub mod Fronts
 pub mod Heads
+pub mod HeldMarks
 pub mod Lists
 pub mod Maps
 pub mod Older

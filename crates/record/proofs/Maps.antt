@@ -2,7 +2,8 @@
 -- over all bytes.
 use mathlib.Core.Bool.{Bool, true, false, not, _&&_, _||_, cond, Bool·beq, Bool·not-not, true≢false, false≢true}
 use mathlib.Core.Logic.{_↔_, inl, inr}
-use mathlib.Core.Path.{_≡_, refl, subst}
+use mathlib.Core.List.{List}
+use mathlib.Core.Path.{_≡_, refl, subst, _∙_}
 use Prim.Native.Nat.{ℕ, zero, suc, _+_, _%_, _<_}
 use native.Mathlib.Nat.{le-suc-iff}
 use native.Mathlib.Omega.{arith}
@@ -11,10 +12,10 @@ use Rattle.model.specs.declared.Right.{Right}
 use Rattle.model.specs.declared.Right.the-variants.{Remove, Swap, Push}
 use Rattle.model.specs.declared.Top.{Top}
 use Rattle.model.specs.declared.Top.the-variants.{Any, Named}
-use Rattle.model.specs.Bits.{bit}
+use Rattle.model.specs.Bits.{bit, allZero}
 use Rattle.model.proofs.Tests.{both, order, equal}
 use Rattle.record.specs.Reader.{ruleMap, announces, stateOf}
-use Rattle.writer.specs.Writer.{symbolBits, topWeight, secondMap}
+use Rattle.writer.specs.Writer.{symbolBits, topWeight, Second, secondMap}
 
 -- A test that passes at both truth values.
 always : (Bool → Bool) → Bool
@@ -164,32 +165,77 @@ abbrev pub named : Top → Bool
 named Any = false
 named (Named x) = true
 
--- The bits of a second map: each stands exactly if its top is named, and no other does.
-pub second-bits : (a b : Top) → (secondMap a b < 4) × (bit 0 (secondMap a b) ≡ named a) × (bit 1 (secondMap a b) ≡ named b)
-unfolding secondMap
-second-bits Any Any = (omega arith, refl, refl)
-second-bits Any (Named y) = (omega arith, refl, refl)
-second-bits (Named x) Any = (omega arith, refl, refl)
-second-bits (Named x) (Named y) = (omega arith, refl, refl)
+-- Whether some mark stands.
+abbrev pub stand : List ℕ → Bool
+stand held = not (allZero held)
 
--- What a top adds, by whether it is named.
-added : (w : ℕ) (t : Top) → topWeight w t ≡ cond (named t) w 0
-added w Any = refl
-added w (Named x) = refl
+-- A second map, by which of its fields are present.
+abbrev secondBy : Bool → Bool → Bool → Bool → ℕ
+secondBy ta tb ha hb = cond ta 1 0 + cond tb 2 0 + cond ha 4 0 + cond hb 8 0
+
+-- What a top adds, by whether it is named ..
+top-adds : (w : ℕ) (t : Top) → topWeight w t ≡ cond (named t) w 0
+top-adds w Any = refl
+top-adds w (Named x) = refl
+
+-- .. and marks, by whether one stands.
+marks-add : (w : ℕ) (none : Bool) → cond none 0 w ≡ cond (not none) w 0
+marks-add w true = refl
+marks-add w false = refl
+
+-- So a second map is known by which of its fields are present.
+second-by : (x : Second)
+    → secondMap x ≡ secondBy (named (x .a .top)) (named (x .b .top)) (stand (x .a .held)) (stand (x .b .held))
+unfolding secondMap
+second-by x =
+    rw (
+      top-adds 1 (x .a .top),
+      top-adds 2 (x .b .top),
+      marks-add 4 (allZero (x .a .held)),
+      marks-add 8 (allZero (x .b .held)),
+    )
+
+-- The bits of a second map, of which there are four: each stands exactly if its field is present.
+pub record SecondBits (map : ℕ) (x : Second) : Type 0 where
+  pub low : map < 16
+  pub bit0 : bit 0 map ≡ named (x .a .top)
+  pub bit1 : bit 1 map ≡ named (x .b .top)
+  pub bit2 : bit 2 map ≡ stand (x .a .held)
+  pub bit3 : bit 3 map ≡ stand (x .b .held)
+
+secondBits : ℕ → Bool → Bool → Bool → Bool → Bool
+secondBits m ta tb ha hb =
+    ltb m 16 && Bool·beq (bit 0 m) ta && Bool·beq (bit 1 m) tb && Bool·beq (bit 2 m) ha && Bool·beq (bit 3 m) hb
+
+all-second-bits : T (always λ ta. always λ tb. always λ ha. always λ hb. secondBits (secondBy ta tb ha hb) ta tb ha hb)
+unfolding secondBits always
+all-second-bits = tt
+
+-- They are the bits of the second map that is written.
+pub second-bits : (x : Second) → SecondBits (secondMap x) x
+unfolding secondBits
+second-bits x =
+    let ta = named (x .a .top) in
+    let tb = named (x .b .top) in
+    let ha = stand (x .a .held) in
+    let hb = stand (x .b .held) in
+    let t : T (secondBits (secondBy ta tb ha hb) ta tb ha hb) = each _ (each _ (each _ (each _ all-second-bits ta) tb) ha) hb in
+    let z = simp (both, same, order) at t in
+    rw (second-by x) (record { low = z .0 .0 .0 .0; bit0 = z .0 .0 .0 .1; bit1 = z .0 .0 .1; bit2 = z .0 .1; bit3 = z .1 })
 
 secondSum : ℕ → Bool
-secondSum map = eqb (cond (bit 0 map) 1 0 + cond (bit 1 map) 2 0) map
+secondSum map = eqb (secondBy (bit 0 map) (bit 1 map) (bit 2 map) (bit 3 map)) map
 
-all-second-sums : T (upTo secondSum 4)
+all-second-sums : T (upTo secondSum 16)
 unfolding secondSum
 all-second-sums = tt
 
 -- A second map is the sum of its bits.
-pub second-sum : (map : ℕ) → map < 4 → (a b : Top) → bit 0 map ≡ named a → bit 1 map ≡ named b → secondMap a b ≡ map
-unfolding secondSum secondMap
-second-sum map h a b e f =
-    let t = equal (cond (bit 0 map) 1 0 + cond (bit 1 map) 2 0) map .0 (below secondSum 4 all-second-sums map h) in
-    rw (added 1 a, added 2 b) (rw (e, f) at t)
+pub second-sum : {map : ℕ} {x : Second} → SecondBits map x → secondMap x ≡ map
+unfolding secondSum
+second-sum {map} {x} b =
+    let t = equal (secondBy (bit 0 map) (bit 1 map) (bit 2 map) (bit 3 map)) map .0 (below secondSum 16 all-second-sums map (b .low)) in
+    second-by x ∙ rw (b .bit0, b .bit1, b .bit2, b .bit3) at t
 
 targetBits : ℕ → Bool
 targetBits b = Bool·beq (announces b) (bit 7 b) && eqb (stateOf b) (b % 128)

@@ -14,17 +14,19 @@ use Rattle.model.specs.declared.Thread.{Thread}
 use Rattle.model.specs.Bits.{bit}
 use Rattle.model.specs.Results.{refused, accepted}
 use Rattle.model.specs.Rules.{zeroRule}
-use Rattle.model.specs.Valid.{Valid, SameThread, Same, Places}
+use Rattle.model.specs.Valid.{Valid, faultOf, SameThread, Same, Places}
+use Rattle.model.proofs.Alike.{same-valid}
 use Rattle.model.proofs.Ranges.{valid-fits}
-use Rattle.model.proofs.Results.{apart}
+use Rattle.model.proofs.Results.{apart, undue}
 use Rattle.record.specs.declared.Reading.{Reading}
 use Rattle.record.specs.Kept.{Unused, Kept, Keeps}
 use Rattle.record.specs.Held.{readingOf}
-use Rattle.record.specs.Reader.{Read, announces, parseRules, Head, parseHead, threadFrom, modelOf, parseFront, ended, readOf}
+use Rattle.record.specs.Reader.{Read, announces, parseRules, Head, parseHead, threadFrom, modelOf, marksFault, parseFront, ended, readOf}
 use Rattle.record.specs.Older.{targetByte}
 use Rattle.record.specs.Written.{ReadsBack}
-use Rattle.writer.specs.Writer.{weightOf, rulesOf, mapOf, secondMap, headBytes, recordOf}
+use Rattle.writer.specs.Writer.{weightOf, rulesOf, mapOf, secondOf, secondMap, headBytes, recordOf}
 use Rattle.record.proofs.OneField.{parted, carried, value-same}
+use Rattle.record.proofs.HeldMarks.{valid-marks, unmarked, only-marks}
 use Rattle.record.proofs.Maps.{HeadBits, head-sum}
 use Rattle.record.proofs.ThreadRules.{rules-back, RulesRead, rules-forth, thread-fits, rules-bytes}
 use Rattle.record.proofs.Heads.{headOf, headWith, map-bits, head-back, HeadRead, head-forth}
@@ -32,6 +34,34 @@ use Rattle.record.proofs.Heads.{headOf, headWith, map-bits, head-back, 
 -- A model with its unused places zero.
 pub tidy : Model → Model
 tidy m = modelOf (headOf m) (take (m .a .count) (m .a .rules)) (take (m .b .count) (m .b .rules))
+
+-- A thread with its unused places zero is the same thread.
+tidy-same : (t : Thread) → length (t .rules) ≡ 64 → t .count ≤ 64
+    → SameThread t (threadFrom (t .first .0) (record { top = t .top; held = t .held }) (take (t .count) (t .rules)))
+tidy-same t n k =
+    let used : List Rule = take (t .count) (t .rules) in
+    let size : length used ≡ t .count = length-take-le (t .count) (t .rules) (omega arith) in
+    record {
+      first = refl;
+      top = refl;
+      held = refl;
+      count = sym size;
+      rules = λ r h. sym (List·getD-append used (replicate (64 - length used) zeroRule) zeroRule r (omega arith) ∙ getD-take (t .count) (t .rules) r zeroRule h);
+    }
+
+-- A model with its unused places zero is the same model.
+pub tidy-model : (m : Model) → Valid m → Places m → Same m (tidy m)
+unfolding tidy headOf
+tidy-model m v p =
+    let f = valid-fits m .0 v in
+    record {
+      g = refl;
+      k = refl;
+      start = refl;
+      target = refl;
+      a = tidy-same (m .a) (p .a) (f .a .count);
+      b = tidy-same (m .b) (p .b) (f .b .count);
+    }
 
 -- A record, as its head and its rules.
 record-bytes : (m : Model) (rest : List ℕ)
@@ -47,9 +77,10 @@ front-back m v p rest =
     let b = map-bits m in
     rw (
       record-bytes m rest,
-      head-back m f (rulesOf (m .a) ++ (rulesOf (m .b) ++ rest)),
+      head-back m f p (rulesOf (m .a) ++ (rulesOf (m .b) ++ rest)),
       rules-back (m .a) (f .a) (p .a) (rulesOf (m .b) ++ rest) (b .bit6),
       rules-back (m .b) (f .b) (p .b) rest (b .bit7),
+      valid-marks (tidy m) (same-valid (tidy-model m v p) v),
     )
 
 -- What reading a record at the front tells.
@@ -59,7 +90,7 @@ pub record FrontRead (bs : List ℕ) (m : Model) (rest : List ℕ) : Type 0 wher
   pub places : Places m
   pub unusedA : Unused (m .a)
   pub unusedB : Unused (m .b)
-  pub announced : announces (targetByte bs) ≡ not (eqb (secondMap (m .a .top) (m .b .top)) 0)
+  pub announced : announces (targetByte bs) ≡ not (eqb (secondMap (secondOf m)) 0)
 
 -- The map of the model that was read is the map that was read.
 same-map : (h : Head) (ra rb : List Rule) → h .map < 256
@@ -72,27 +103,46 @@ same-map h ra rb k b = head-sum (h .map) k b
 padded-size : (rs : List Rule) → length rs ≤ 64 → length (rs ++ replicate (64 - length rs) zeroRule) ≡ 64
 padded-size rs h = simp (length-append, length-replicate) (omega arith)
 
--- Head and rules that were read make the record.
+-- Of a head and rules that were read, marks alone can be at fault.
+parts-fault : {bs m₁ m₂ rest : List ℕ} {h : Head} {ra rb : List Rule} → HeadRead bs h m₁
+    → RulesRead (h .g) (bit 6 (h .map)) m₁ ra m₂ → RulesRead (h .g) (bit 7 (h .map)) m₂ rb rest
+    → faultOf (modelOf h ra rb) ≡ marksFault (modelOf h ra rb)
+parts-fault {h = h} {ra} {rb} hd a b =
+    only-marks (modelOf h ra rb)
+    (valid-fits (unmarked (modelOf h ra rb)) .1
+    (record {
+      g = hd .g;
+      k = hd .k;
+      start = hd .start;
+      target = hd .target;
+      a = thread-fits (h .g) (h .a) (h .second .a .top) ra (hd .first) (hd .extraA .top) (a .most) (a .fits);
+      b = thread-fits (h .g) (h .b) (h .second .b .top) rb (hd .second) (hd .extraB .top) (b .most) (b .fits);
+    }))
+
+-- The same by what was parsed.
+pub parsed-fault : (bs : List ℕ) {m₁ m₂ rest : List ℕ} {h : Head} {ra rb : List Rule} → parseHead bs ≡ accepted (h, m₁)
+    → parseRules (bit 6 (h .map)) (h .g) m₁ ≡ accepted (ra, m₂) → parseRules (bit 7 (h .map)) (h .g) m₂ ≡ accepted (rb, rest)
+    → faultOf (modelOf h ra rb) ≡ marksFault (modelOf h ra rb)
+parsed-fault bs e a b = parts-fault (head-forth bs e) (rules-forth _ _ _ a) (rules-forth _ _ _ b)
+
+-- Head and rules that were read make the record, where no mark is at fault.
 front-made : {bs m₁ m₂ rest : List ℕ} {h : Head} {ra rb : List Rule} → HeadRead bs h m₁
     → RulesRead (h .g) (bit 6 (h .map)) m₁ ra m₂ → RulesRead (h .g) (bit 7 (h .map)) m₂ rb rest
-    → FrontRead bs (modelOf h ra rb) rest
+    → marksFault (modelOf h ra rb) ≡ 0 → FrontRead bs (modelOf h ra rb) rest
 unfolding headOf headWith
-front-made {bs} {m₁} {m₂} {rest} {h} {ra} {rb} hd a b =
+front-made {bs} {m₁} {m₂} {rest} {h} {ra} {rb} hd a b z =
     record {
       bytes = λ k.
           let small : h .map < 256 = subst (λ l. getD l 0 0 < 256) (hd .bytes) k in
           let map = same-map h ra rb small (hd .bits (eqb (length ra) 0) (eqb (length rb) 0) (a .stands) (b .stands)) in
           rw (record-bytes (modelOf h ra rb) rest, map, rules-bytes (h .b) (h .second .b) rb rest, ← b .bytes, rules-bytes (h .a) (h .second .a) ra m₂, ← a .bytes) (hd .bytes);
-      valid = valid-fits (modelOf h ra rb) .1
-          (record {
-            g = hd .g;
-            k = hd .k;
-            start = hd .start;
-            target = hd .target;
-            a = thread-fits (h .g) (h .a) (h .second .a) ra (hd .first) (hd .topA) (a .most) (a .fits);
-            b = thread-fits (h .g) (h .b) (h .second .b) rb (hd .second) (hd .topB) (b .most) (b .fits);
-          });
-      places = record { a = padded-size ra (a .most); b = padded-size rb (b .most) };
+      valid = parts-fault hd a b ∙ z;
+      places = record {
+        a = padded-size ra (a .most);
+        b = padded-size rb (b .most);
+        heldA = hd .extraA .held;
+        heldB = hd .extraB .held;
+      };
       unusedA = drop-append-seam ra (replicate (64 - length ra) zeroRule);
       unusedB = drop-append-seam rb (replicate (64 - length rb) zeroRule);
       announced = hd .announced;
@@ -105,7 +155,9 @@ front-forth bs e =
     parted (parseHead bs) _ e λ h m₁ b₁ e₁.
     parted (parseRules (bit 6 (h .map)) (h .g) m₁) _ e₁ λ ra m₂ b₂ e₂.
     parted (parseRules (bit 7 (h .map)) (h .g) m₂) _ e₂ λ rb m₃ b₃ e₃.
-    carried (FrontRead bs) e₃ (front-made (head-forth bs b₁) (rules-forth (bit 6 (h .map)) (h .g) m₁ b₂) (rules-forth (bit 7 (h .map)) (h .g) m₂ b₃))
+    let z = undue (marksFault (modelOf h ra rb)) e₃ in
+    carried (FrontRead bs) (z .1)
+    (front-made (head-forth bs b₁) (rules-forth (bit 6 (h .map)) (h .g) m₁ b₂) (rules-forth (bit 7 (h .map)) (h .g) m₂ b₃) (z .0))
 
 -- Nothing is left of a whole record.
 whole : {m n : Model} (bs rest : List ℕ) → ended n bs ≡ accepted (m, rest) → (bs ≡ []) × (n ≡ m)
@@ -126,33 +178,6 @@ read-kept bs {m} e k =
       unusedA = r .unusedA;
       unusedB = r .unusedB;
       rewritten = sym (r .bytes k ∙ append-nil (recordOf m));
-    }
-
--- A thread with its unused places zero is the same thread.
-tidy-same : (t : Thread) → length (t .rules) ≡ 64 → t .count ≤ 64
-    → SameThread t (threadFrom (t .first .0) (t .top) (take (t .count) (t .rules)))
-tidy-same t n k =
-    let used : List Rule = take (t .count) (t .rules) in
-    let size : length used ≡ t .count = length-take-le (t .count) (t .rules) (omega arith) in
-    record {
-      first = refl;
-      top = refl;
-      count = sym size;
-      rules = λ r h. sym (List·getD-append used (replicate (64 - length used) zeroRule) zeroRule r (omega arith) ∙ getD-take (t .count) (t .rules) r zeroRule h);
-    }
-
--- A model with its unused places zero is the same model.
-pub tidy-model : (m : Model) → Valid m → Places m → Same m (tidy m)
-unfolding tidy headOf
-tidy-model m v p =
-    let f = valid-fits m .0 v in
-    record {
-      g = refl;
-      k = refl;
-      start = refl;
-      target = refl;
-      a = tidy-same (m .a) (p .a) (f .a .count);
-      b = tidy-same (m .b) (p .b) (f .b .count);
     }
 
 -- A written record is read as the model with its unused places zero.

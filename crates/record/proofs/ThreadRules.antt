@@ -10,11 +10,13 @@ use lib.Seq.{take-append-seam, length-take-le}
 use Rattle.model.specs.declared.Rule.{Rule}
 use Rattle.model.specs.declared.Thread.{Thread}
 use Rattle.model.specs.declared.Top.{Top}
+use Rattle.model.specs.Bits.{allZero}
 use Rattle.model.specs.Results.{accepted}
 use Rattle.model.specs.Rules.{zeroRule}
 use Rattle.model.specs.Fits.{RuleFits, TopFits, ThreadFits}
-use Rattle.record.specs.Reader.{parseField, parseRuleList, parseRules, threadFrom}
-use Rattle.writer.specs.Writer.{fieldOf, ruleListOf, rulesOf}
+use Rattle.model.proofs.Marks.{no-bit}
+use Rattle.record.specs.Reader.{parseField, parseRuleList, parseRules, noMarks, threadFrom}
+use Rattle.writer.specs.Writer.{fieldOf, ruleListOf, rulesOf, Extra}
 use Rattle.record.proofs.OneField.{parted, field-back, field-forth}
 use Rattle.record.proofs.RuleLists.{RulesFit, list-back, list-forth}
 
@@ -64,15 +66,22 @@ fit-at g [] more f r h = absurd (omega arith)
 fit-at g (x ∷ xs) more f zero h = f .0
 fit-at g (x ∷ xs) more f (suc r) h = fit-at g xs more (f .1) r (omega arith)
 
--- A thread that was read is in range.
+-- A thread that was read is in range, its marks apart.
 pub thread-fits : (g first : ℕ) (top : Top) (rs : List Rule) → first ≤ 15 → TopFits top → length rs ≤ 64 → RulesFit g rs
-    → ThreadFits g (threadFrom first top rs)
+    → ThreadFits g (threadFrom first (record { top = top; held = noMarks }) rs)
+unfolding allZero
 thread-fits g first top rs h t k f =
-    record { first = h; top = t; count = k; rules = fit-at g rs (replicate (64 - length rs) zeroRule) f }
+    record {
+      first = h;
+      top = t;
+      count = k;
+      rules = fit-at g rs (replicate (64 - length rs) zeroRule) f;
+      free = λ r l u. no-bit noMarks tt r;
+    }
 
 -- The bytes of a thread's rules that were read.
-pub rules-bytes : (first : ℕ) (top : Top) (rs : List Rule) (rest : List ℕ)
-    → rulesOf (threadFrom first top rs) ++ rest ≡ fieldOf 0 (length rs) ++ (ruleListOf rs ++ rest)
+pub rules-bytes : (first : ℕ) (x : Extra) (rs : List Rule) (rest : List ℕ)
+    → rulesOf (threadFrom first x rs) ++ rest ≡ fieldOf 0 (length rs) ++ (ruleListOf rs ++ rest)
 unfolding rulesOf
-rules-bytes first top rs rest =
+rules-bytes first x rs rest =
     rw (take-append-seam rs (replicate (64 - length rs) zeroRule), append-assoc (fieldOf 0 (length rs)) (ruleListOf rs) rest)

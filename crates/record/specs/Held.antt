@@ -1,6 +1,6 @@
 -- What the answers of the code stand for: each comes to a refusal, or to a value and the place after it, where the
 -- definitions hold the bytes left.
-use mathlib.Core.List.{List}
+use mathlib.Core.List.{List, [], _∷_}
 use mathlib.Core.Path.{_≡_}
 use Prim.Native.Nat.{ℕ, _-_, _≤_}
 use lib.ListN.{length, take, drop, replicate}
@@ -18,6 +18,9 @@ use Rattle.record.specs.declared.Fields.{Fields}
 use Rattle.record.specs.declared.Front.{Front}
 use Rattle.record.specs.declared.HeadPart.{HeadPart}
 use Rattle.record.specs.declared.HeadPart.the-variants as headPart
+use Rattle.record.specs.declared.Marks.{Marks}
+use Rattle.record.specs.declared.MarksPart.{MarksPart}
+use Rattle.record.specs.declared.MarksPart.the-variants as marksPart
 use Rattle.record.specs.declared.Part.{Part}
 use Rattle.record.specs.declared.Part.the-variants as part
 use Rattle.record.specs.declared.Reading.{Reading}
@@ -26,14 +29,16 @@ use Rattle.record.specs.declared.RightPart.the-variants as rightPart
 use Rattle.record.specs.declared.RuleList.{RuleList}
 use Rattle.record.specs.declared.RulePart.{RulePart}
 use Rattle.record.specs.declared.RulePart.the-variants as rulePart
-use Rattle.record.specs.declared.Second.{Second}
+use Rattle.record.specs.declared.SecondFields.{SecondFields}
 use Rattle.record.specs.declared.SecondPart.{SecondPart}
 use Rattle.record.specs.declared.SecondPart.the-variants as secondPart
 use Rattle.record.specs.declared.Taken.{Taken}
 use Rattle.record.specs.declared.Taken.the-variants as taken
+use Rattle.record.specs.declared.ThreadFields.{ThreadFields}
 use Rattle.record.specs.declared.TopPart.{TopPart}
 use Rattle.record.specs.declared.TopPart.the-variants as topPart
-use Rattle.record.specs.Reader.{Read, Head}
+use Rattle.record.specs.Reader.{Read, noMarks, Head}
+use Rattle.writer.specs.Writer.{Extra, Second}
 
 -- A field: its byte.
 abbrev pub partOf : Part → Result (ℕ × ℕ)
@@ -55,9 +60,26 @@ abbrev pub topPartOf : TopPart → Result (Top × ℕ)
 topPartOf (topPart.Read x) = accepted (x .top, x .at)
 topPartOf (topPart.Refused n) = refused n
 
--- What a second map names.
+-- Eight bytes of marks, as a list.
+abbrev pub heldOf : Marks → List ℕ
+heldOf x = x .0 ∷ x .1 ∷ x .2 ∷ x .3 ∷ x .4 ∷ x .5 ∷ x .6 ∷ x .7 ∷ []
+
+-- The marks of a thread.
+abbrev pub marksPartOf : MarksPart → Result (List ℕ × ℕ)
+marksPartOf (marksPart.Read x) = accepted (heldOf (x .marks), x .at)
+marksPartOf (marksPart.Refused n) = refused n
+
+-- What a second map says of a thread ..
+abbrev pub extraOf : ThreadFields → Extra
+extraOf x = record { top = x .top; held = heldOf (x .marks) }
+
+-- .. and of both.
+abbrev pub saidOf : SecondFields → Second
+saidOf x = record { a = extraOf (x .a); b = extraOf (x .b) }
+
+-- A second map: what it says.
 abbrev pub secondPartOf : SecondPart → Result (Second × ℕ)
-secondPartOf (secondPart.Read x) = accepted (x .second, x .at)
+secondPartOf (secondPart.Read x) = accepted (saidOf (x .second), x .at)
 secondPartOf (secondPart.Refused n) = refused n
 
 -- The head fields without the place after them.
@@ -69,7 +91,7 @@ fieldsOf f =
       k = f .k;
       start = f .start;
       target = f .target;
-      second = f .second;
+      second = saidOf (f .second);
       a = f .a;
       b = f .b;
     }
@@ -122,7 +144,7 @@ pub record Padded (count : ℕ) (rs : List Rule) : Type 0 where
 
 -- A thread whose places are all zero.
 abbrev pub zeroThread : Thread
-zeroThread = record { first = record { 0 = 0 }; top = Any; count = 0; rules = replicate 64 zeroRule }
+zeroThread = record { first = record { 0 = 0 }; top = Any; held = noMarks; count = 0; rules = replicate 64 zeroRule }
 
 -- A model whose places are all zero.
 abbrev pub zeroModel : Model

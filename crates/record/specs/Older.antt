@@ -1,4 +1,4 @@
--- Older records, from before second maps: the target byte is its state alone, and no top is named.
+-- Older records, from before second maps: the target byte is its state alone, no top is named and no rule is held.
 use mathlib.Core.List.{List}
 use mathlib.Core.Path.{_≡_}
 use Prim.Native.Nat.{ℕ, _+_}
@@ -6,12 +6,13 @@ use lib.ListN.{getD}
 use Rattle.model.specs.declared.Model.{Model}
 use Rattle.model.specs.declared.Top.the-variants.{Any}
 use Rattle.model.specs.Bits.{bit, oneIf}
-use Rattle.record.specs.declared.Second.{Second}
-use Rattle.record.specs.Reader.{Read, andRead, parseRanged, parseField, Head, parseFirsts, headBy, modelAfter}
+use Rattle.model.specs.Results.{accepted}
+use Rattle.writer.specs.Writer.{Second, secondOf}
+use Rattle.record.specs.Reader.{Read, andRead, parseRanged, parseField, noMarks, Head, parseFirsts, headBy, modelBy}
 
--- What no second map says: any top.
+-- What no second map says: any top, and no mark.
 abbrev pub noSecond : Second
-noSecond = record { a = Any; b = Any }
+noSecond = record { a = record { top = Any; held = noMarks }; b = record { top = Any; held = noMarks } }
 
 -- The older rest of a head: the two states and the first symbols.
 abbrev pub olderHeadRest : ℕ → ℕ → ℕ → List ℕ → Read Head
@@ -19,9 +20,9 @@ olderHeadRest map g k bs =
     andRead (parseField (bit 2 map) 3 0 g 0 bs) (λ start rest.
     andRead (parseRanged 3 0 g rest) (λ target rest. parseFirsts map g k start target noSecond rest))
 
--- The record at the front of a list, as older readers read it.
+-- The record at the front of a list, as older readers read it: nothing is asked of the model after its rules.
 unfoldable pub olderFront : List ℕ → Read Model
-olderFront bs = andRead (headBy olderHeadRest bs) modelAfter
+olderFront bs = andRead (headBy olderHeadRest bs) (modelBy (λ m rest. accepted (m, rest)))
 
 -- The target byte of a record: it comes after the map and those of G, K and the start state that the map names.
 unfoldable pub targetByte : List ℕ → ℕ
@@ -29,7 +30,6 @@ targetByte bs =
     let map = getD bs 0 0 in
     getD bs (1 + (oneIf (bit 0 map) + (oneIf (bit 1 map) + oneIf (bit 2 map)))) 0
 
--- No top is named.
-pub record NoTops (m : Model) : Type 0 where
-  pub a : m .a .top ≡ Any
-  pub b : m .b .top ≡ Any
+-- No top is named and no rule is held: a second map would say nothing.
+abbrev pub NoSecond : Model → Type 0
+NoSecond m = secondOf m ≡ noSecond

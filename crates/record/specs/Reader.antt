@@ -3,7 +3,7 @@ use mathlib.Core.Bool.{Bool, true, false, not, _&&_, _||_, cond}
 use mathlib.Core.List.{List, [], _∷_, _++_}
 use Prim.Native.Nat.{ℕ, zero, suc, _-_, _/_, _%_}
 use lib.Dec.{leb, ltb, eqb}
-use lib.ListN.{length, replicate}
+use lib.ListN.{length, take, drop, replicate}
 use Rattle.model.specs.declared.Model.{Model}
 use Rattle.model.specs.declared.Right.{Right}
 use Rattle.model.specs.declared.Right.the-variants.{Remove, Swap, Push}
@@ -11,10 +11,11 @@ use Rattle.model.specs.declared.Rule.{Rule}
 use Rattle.model.specs.declared.Thread.{Thread}
 use Rattle.model.specs.declared.Top.{Top}
 use Rattle.model.specs.declared.Top.the-variants.{Any, Named}
-use Rattle.model.specs.Bits.{bit}
-use Rattle.model.specs.Results.{Result, refused, accepted, andThen, need}
+use Rattle.model.specs.Bits.{bit, allZero}
+use Rattle.model.specs.Results.{Result, refused, accepted, andThen, need, unless, firstOf}
 use Rattle.model.specs.Rules.{zeroRule}
-use Rattle.record.specs.declared.Second.{Second}
+use Rattle.model.specs.Valid.{markFault}
+use Rattle.writer.specs.Writer.{Extra, Second}
 
 -- Reading at the front of a list of bytes comes to a value and the bytes left.
 abbrev pub Read : Type 0 → Type 0
@@ -105,12 +106,26 @@ unfoldable pub parseTop : Bool → List ℕ → Read Top
 parseTop false bs = accepted (Any, bs)
 parseTop true bs = andRead (parseRanged 3 0 16 bs) (λ x rest. accepted (Named (record { 0 = x }), rest))
 
--- The second map, of bits 0 and 1 alone (3) and not 0 (5), and then its fields in bit order; where it is absent, no field.
+-- What absent marks say: eight zero bytes, so no rule is held.
+abbrev pub noMarks : List ℕ
+noMarks = replicate 8 0
+
+-- The marks of a thread's held rules: where their bit stands eight bytes (1), not all of them zero (5), else none.
+unfoldable pub parseMarks : Bool → List ℕ → Read (List ℕ)
+parseMarks false bs = accepted (noMarks, bs)
+parseMarks true bs =
+    need 1 (leb 8 (length bs)) (need 5 (not (allZero (take 8 bs))) (accepted (take 8 bs, drop 8 bs)))
+
+-- The second map, of bits 0 to 3 alone (3) and not 0 (5), and then its fields in bit order: the tops of A and of B, and their
+-- marks. Where it is absent, no field.
 unfoldable pub parseSecond : Bool → List ℕ → Read Second
 parseSecond present bs =
-    andRead (parseField present 3 0 4 0 bs) (λ map rest.
-    andRead (parseTop (bit 0 map) rest) (λ a rest.
-    andRead (parseTop (bit 1 map) rest) (λ b rest. accepted (record { a = a; b = b }, rest))))
+    andRead (parseField present 3 0 16 0 bs) (λ map rest.
+    andRead (parseTop (bit 0 map) rest) (λ topA rest.
+    andRead (parseTop (bit 1 map) rest) (λ topB rest.
+    andRead (parseMarks (bit 2 map) rest) (λ heldA rest.
+    andRead (parseMarks (bit 3 map) rest) (λ heldB rest.
+    accepted (record { a = record { top = topA; held = heldA }; b = record { top = topB; held = heldB } }, rest))))))
 
 -- The head fields, and the map, whose last two bits stand for the rule lists.
 pub record Head : Type 0 where
@@ -130,7 +145,7 @@ parseFirsts map g k start target second bs =
     andRead (parseField (bit 5 map) 3 0 16 0 rest) (λ b rest.
     accepted (record { map = map; g = g; k = k; start = start; target = target; second = second; a = a; b = b }, rest)))
 
--- The head after its map, G and K: the two states, what a second map names, and the first symbols.
+-- The head after its map, G and K: the two states, what a second map says, and the first symbols.
 abbrev pub parseHeadRest : ℕ → ℕ → ℕ → List ℕ → Read Head
 parseHeadRest map g k bs =
     andRead (parseField (bit 2 map) 3 0 g 0 bs) (λ start rest.
@@ -150,10 +165,16 @@ headBy readRest bs =
 unfoldable pub parseHead : List ℕ → Read Head
 parseHead bs = headBy parseHeadRest bs
 
--- A thread with a first symbol, a top and these rules; the unused places are zero.
-abbrev pub threadFrom : ℕ → Top → List Rule → Thread
-threadFrom first top rs =
-    record { first = record { 0 = first }; top = top; count = length rs; rules = rs ++ replicate (64 - length rs) zeroRule }
+-- A thread with a first symbol, what a second map says of it, and these rules; the unused places are zero.
+abbrev pub threadFrom : ℕ → Extra → List Rule → Thread
+threadFrom first x rs =
+    record {
+      first = record { 0 = first };
+      top = x .top;
+      held = x .held;
+      count = length rs;
+      rules = rs ++ replicate (64 - length rs) zeroRule;
+    }
 
 -- The model of a head and two lists of rules.
 abbrev pub modelOf : Head → List Rule → List Rule → Model
@@ -167,15 +188,23 @@ modelOf h ra rb =
       b = threadFrom (h .b) (h .second .b) rb;
     }
 
--- The model of a head that was read, and of A's rules and B's after it.
-abbrev pub modelAfter : Head → List ℕ → Read Model
-modelAfter h bs =
+-- The model of a head that was read, and of A's rules and B's after it; and then what is asked of it.
+abbrev pub modelBy : (Model → List ℕ → Read Model) → Head → List ℕ → Read Model
+modelBy next h bs =
     andRead (parseRules (bit 6 (h .map)) (h .g) bs) (λ ra rest.
-    andRead (parseRules (bit 7 (h .map)) (h .g) rest) (λ rb rest. accepted (modelOf h ra rb, rest)))
+    andRead (parseRules (bit 7 (h .map)) (h .g) rest) (λ rb rest. next (modelOf h ra rb) rest))
 
--- The record at the front of a list: the head, then A's rules and B's.
+-- The refusal number of marks on rule numbers that a list lacks: A's first, then B's; 0 for none.
+unfoldable pub marksFault : Model → ℕ
+marksFault m = firstOf (markFault (m .a) ∷ markFault (m .b) ∷ [])
+
+-- Marks stand on rules of the lists alone (11).
+abbrev pub marksListed : Model → List ℕ → Read Model
+marksListed m bs = unless (marksFault m) (accepted (m, bs))
+
+-- The record at the front of a list: the head, then A's rules and B's, and that their marks are on rules of the lists.
 unfoldable pub parseFront : List ℕ → Read Model
-parseFront bs = andRead (parseHead bs) modelAfter
+parseFront bs = andRead (parseHead bs) (modelBy marksListed)
 
 -- Nothing is left after the last field (6).
 abbrev pub ended : Model → List ℕ → Read Model

@@ -72,7 +72,7 @@ pub fn write(m: Model, store: &mut [u8]) -> Written
     if fault != 0 {
         return Written::Refused(fault);
     }
-    let mut buffer = [0u8; 652];
+    let mut buffer = [0u8; 668];
     let n = writer::put_record(&mut buffer, m);
     if store.len() < n {
         return Written::Refused(7);
@@ -107,15 +107,45 @@ pub enum TopPart {
     Refused(u8),
 }
 
-// What the fields of a second map say: the tops of A and of B.
-pub struct Second {
-    pub a: Top,
-    pub b: Top,
+// The eight bytes of a thread's marks, one by one, since an enum holds no array.
+pub struct Marks(
+    pub u8,
+    pub u8,
+    pub u8,
+    pub u8,
+    pub u8,
+    pub u8,
+    pub u8,
+    pub u8,
+);
+
+// The marks of a thread, and the place after them.
+pub struct MarksAt {
+    pub marks: Marks,
+    pub at: usize,
+}
+
+// The marks, or the refusal's number.
+pub enum MarksPart {
+    Read(MarksAt),
+    Refused(u8),
+}
+
+// What the fields of a second map say of a thread: its top, and the marks of its held rules.
+pub struct ThreadFields {
+    pub top: Top,
+    pub marks: Marks,
+}
+
+// The same of A and of B.
+pub struct SecondFields {
+    pub a: ThreadFields,
+    pub b: ThreadFields,
 }
 
 // The same, and the place after them.
 pub struct SecondAt {
-    pub second: Second,
+    pub second: SecondFields,
     pub at: usize,
 }
 
@@ -132,7 +162,7 @@ pub struct Fields {
     pub k: u8,
     pub start: u8,
     pub target: u8,
-    pub second: Second,
+    pub second: SecondFields,
     pub a: u8,
     pub b: u8,
     pub at: usize,

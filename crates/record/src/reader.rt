@@ -6,9 +6,11 @@ use crate::Part;
 use crate::RuleList;
 use crate::SecondPart;
 use crate::Taken;
+use crate::ThreadFields;
 use crate::field::byte_at;
 use crate::field::field;
 use crate::rules::read_rules;
+use crate::targets::array_of;
 use crate::targets::read_second;
 use crate::targets::read_target;
 use crate::targets::state_of;
@@ -17,12 +19,12 @@ use model::Model;
 use model::Shared;
 use model::Symbol;
 use model::Thread;
-use model::Top;
 ghost use mathlib.Core.Path.{_≡_};
 ghost use Prim.Native.Nat.{_≤_};
 ghost use lib.ListN.{length, drop};
-ghost use Rattle.record.specs.Held.{Reads, headPartOf, frontOf, Padded, listed, readingOf, zeroModel};
-ghost use Rattle.record.specs.Reader.{parseFront, parseHead, parseHeadRest, threadFrom};
+ghost use Rattle.model.specs.Valid.{faultOf};
+ghost use Rattle.record.specs.Held.{Reads, extraOf, fieldsOf, headPartOf, frontOf, Padded, listed, readingOf, zeroModel};
+ghost use Rattle.record.specs.Reader.{parseFront, parseHead, parseHeadRest, threadFrom, modelOf, marksFault};
 
 // A record at the front of a slice, and how many bytes it took.
 pub fn front(bytes: &[u8]) -> Front
@@ -47,21 +49,51 @@ pub fn front(bytes: &[u8]) -> Front
         Taken::At(x) => x,
         Taken::Refused(n) => return refusal(n),
     };
-    let second = h.second;
-    let top_a = second.a;
-    let top_b = second.b;
-    let model = Model {
-        g: h.g,
-        k: h.k,
-        start: Shared(h.start),
-        target: Shared(h.target),
-        a: thread(h.a, top_a, list_a),
-        b: thread(h.b, top_b, list_b),
-    };
+    let model = model_of(h, list_a, list_b);
+    let fault = marks_fault(model);
+    if fault != 0 {
+        return refusal(fault);
+    }
     Front {
         answer: Taken::At(from + taken_b),
         model,
     }
+}
+
+// The model of a head and the rules of both threads.
+fn model_of(h: Fields, a: RuleList, b: RuleList) -> Model
+    requires { ⌜ Padded (a .count) (a .rules) × Padded (b .count) (b .rules) ⌝ }
+    ensures { λ r. ⌜ r ≡ modelOf (fieldsOf h) (listed a) (listed b) ⌝ }
+{
+    let second = h.second;
+    let extra_a = second.a;
+    let extra_b = second.b;
+    Model {
+        g: h.g,
+        k: h.k,
+        start: Shared(h.start),
+        target: Shared(h.target),
+        a: thread(h.a, extra_a, a),
+        b: thread(h.b, extra_b, b),
+    }
+}
+
+// The fault of a model's marks, where all else of it is in range: none, where no mark stands.
+fn marks_fault(m: Model) -> u8
+    requires { ⌜ faultOf m ≡ marksFault m ⌝ }
+    ensures { λ n. ⌜ n ≡ marksFault m ⌝ }
+{
+    let a = m.a;
+    let held_a = a.held;
+    if !model::all_zero(held_a) {
+        return model::fault(m);
+    }
+    let b = m.b;
+    let held_b = b.held;
+    if !model::all_zero(held_b) {
+        return model::fault(m);
+    }
+    0
 }
 
 // The zero model, beside a refusal.
@@ -75,14 +107,18 @@ fn refusal(n: u8) -> Front
 }
 
 // A thread with the rules that were read.
-fn thread(first: u8, top: Top, l: RuleList) -> Thread
+fn thread(first: u8, x: ThreadFields, l: RuleList) -> Thread
     requires { ⌜ Padded (l .count) (l .rules) ⌝ }
-    ensures { λ r. ⌜ r ≡ threadFrom first top (listed l) ⌝ }
+    ensures { λ r. ⌜ r ≡ threadFrom first (extraOf x) (listed l) ⌝ }
 {
+    let top = x.top;
+    let marks = x.marks;
+    let held = array_of(marks);
     let rules = l.rules;
     Thread {
         first: Symbol(first),
         top,
+        held,
         count: l.count,
         rules,
     }
@@ -111,7 +147,7 @@ fn read_head(s: &[u8]) -> HeadPart
     read_head_rest(s, k.at, map, g.byte, k.byte)
 }
 
-// The head after G and K: the two states, what a second map names, and the first symbols.
+// The head after G and K: the two states, what a second map says, and the first symbols.
 fn read_head_rest(s: &[u8], at: usize, map: u8, g: u8, k: u8) -> HeadPart
     requires { ⌜ at ≤ length (now s) ⌝ }
     ensures { λ r. ⌜ Reads (now (s .entry)) (headPartOf r) (parseHeadRest map g k (drop at (now (s .entry)))) ⌝ }

@@ -1,8 +1,12 @@
 // The readers of the target byte, and of the second map that its bit 7 announces.
+use crate::Marks;
+use crate::MarksAt;
+use crate::MarksPart;
 use crate::Part;
-use crate::Second;
 use crate::SecondAt;
+use crate::SecondFields;
 use crate::SecondPart;
+use crate::ThreadFields;
 use crate::TopAt;
 use crate::TopPart;
 use crate::field::byte_at;
@@ -13,8 +17,8 @@ use model::Top;
 ghost use mathlib.Core.Path.{_≡_};
 ghost use Prim.Native.Nat.{_≤_};
 ghost use lib.ListN.{length, drop};
-ghost use Rattle.record.specs.Held.{Reads, partOf, topPartOf, secondPartOf};
-ghost use Rattle.record.specs.Reader.{stateOf, parseTarget, parseTop, parseSecond};
+ghost use Rattle.record.specs.Held.{Reads, partOf, topPartOf, heldOf, marksPartOf, secondPartOf};
+ghost use Rattle.record.specs.Reader.{stateOf, parseTarget, parseTop, parseMarks, parseSecond};
 
 // The target byte, whose state is below G.
 pub fn read_target(s: &[u8], at: usize, g: u8) -> Part
@@ -42,7 +46,7 @@ pub fn read_second(s: &[u8], at: usize, present: bool) -> SecondPart
     requires { ⌜ at ≤ length (now s) ⌝ }
     ensures { λ r. ⌜ Reads (now (s .entry)) (secondPartOf r) (parseSecond present (drop at (now (s .entry)))) ⌝ }
 {
-    let map = match field(s, at, present, 3, 0, 4, 0) {
+    let map = match field(s, at, present, 3, 0, 16, 0) {
         Part::Read(x) => x,
         Part::Refused(n) => return SecondPart::Refused(n),
     };
@@ -54,11 +58,23 @@ pub fn read_second(s: &[u8], at: usize, present: bool) -> SecondPart
         TopPart::Read(x) => x,
         TopPart::Refused(n) => return SecondPart::Refused(n),
     };
-    let a = top_a.top;
-    let b = top_b.top;
+    let marks_a = match read_marks(s, top_b.at, map.byte / 4 % 2 == 1) {
+        MarksPart::Read(x) => x,
+        MarksPart::Refused(n) => return SecondPart::Refused(n),
+    };
+    let marks_b = match read_marks(s, marks_a.at, map.byte / 8 % 2 == 1) {
+        MarksPart::Read(x) => x,
+        MarksPart::Refused(n) => return SecondPart::Refused(n),
+    };
+    let top = top_a.top;
+    let marks = marks_a.marks;
+    let a = ThreadFields { top, marks };
+    let top = top_b.top;
+    let marks = marks_b.marks;
+    let b = ThreadFields { top, marks };
     SecondPart::Read(SecondAt {
-        second: Second { a, b },
-        at: top_b.at,
+        second: SecondFields { a, b },
+        at: marks_b.at,
     })
 }
 
@@ -78,4 +94,48 @@ fn read_top(s: &[u8], at: usize, present: bool) -> TopPart
         top: Top::Named(Symbol(x.byte)),
         at: x.at,
     })
+}
+
+// The marks of a thread's held rules, of which one stands at least; none, where their bit does not stand.
+fn read_marks(s: &[u8], at: usize, present: bool) -> MarksPart
+    requires { ⌜ at ≤ length (now s) ⌝ }
+    ensures { λ r. ⌜ Reads (now (s .entry)) (marksPartOf r) (parseMarks present (drop at (now (s .entry)))) ⌝ }
+{
+    let mut held = [0u8; 8];
+    if !present {
+        let marks = one_by_one(held);
+        return MarksPart::Read(MarksAt { marks, at });
+    }
+    if s.len() - at < 8 {
+        return MarksPart::Refused(1);
+    }
+    writer::copy(&s[at..], &mut held, 8);
+    if model::all_zero(held) {
+        return MarksPart::Refused(5);
+    }
+    let marks = one_by_one(held);
+    MarksPart::Read(MarksAt { marks, at: at + 8 })
+}
+
+// Eight bytes, one by one.
+fn one_by_one(held: [u8; 8]) -> Marks
+    ensures { λ r. ⌜ heldOf r ≡ held ⌝ }
+{
+    Marks(
+        held[0],
+        held[1],
+        held[2],
+        held[3],
+        held[4],
+        held[5],
+        held[6],
+        held[7],
+    )
+}
+
+// The same, as an array again.
+pub fn array_of(x: Marks) -> [u8; 8]
+    ensures { λ r. ⌜ r ≡ heldOf x ⌝ }
+{
+    [x.0, x.1, x.2, x.3, x.4, x.5, x.6, x.7]
 }

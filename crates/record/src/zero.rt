@@ -15,6 +15,7 @@ pub fn zero_model() -> Model
     let t = Thread {
         first: Symbol(0),
         top: Top::Any,
+        held: [0u8; 8],
         count: 0,
         rules: [ZERO_RULE; 64],
     };

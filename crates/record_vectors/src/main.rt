@@ -113,7 +113,7 @@ fn second_maps() -> Tally {
     t = t.counted(agrees(b"\x38\x81\x03\x05\x0F\x01\x02", 0));
     t = t.counted(agrees(b"\x08\x80", 1));
     t = t.counted(agrees(b"\x08\x80\x00", 5));
-    t = t.counted(agrees(b"\x08\x80\x04", 3));
+    t = t.counted(agrees(b"\x08\x80\x10", 3));
     t = t.counted(agrees(b"\x08\x80\x81\x05", 3));
     t = t.counted(agrees(b"\x08\x84\x00", 3));
     t = t.counted(agrees(b"\x08\x80\x01", 1));
@@ -146,12 +146,14 @@ fn file(name: &[u8], store: &mut [u8]) {
     corpus(&store[0..n]).report(name);
 }
 
-// longest.bin has the longest record, of 652 bytes, and the same with a byte less and with one more.
+// held.bin has what document 02 says of held rules: marks for A, for B and for both, and each refusal in its order. longest.bin has
+// the longest record, of 668 bytes, and the same with a byte less and with one more.
 fn main() {
     document().report(b"document 01");
     counts().report(b"rule counts");
     second_maps().report(b"second maps");
     let mut store = [0u8; 100000];
+    file(b"held.bin", &mut store);
     file(b"longest.bin", &mut store);
     file(b"records.bin", &mut store);
 }

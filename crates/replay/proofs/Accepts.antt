@@ -1,7 +1,7 @@
 -- Replay accepts exactly the legal schedules: bytes of even length are the bytes of their steps, and a walk that is not
 -- refused is a run.
-use mathlib.Core.Bool.{Bool}
-use mathlib.Core.List.{List}
+use mathlib.Core.Bool.{Bool, false, not}
+use mathlib.Core.List.{List, [], _∷_}
 use mathlib.Core.Logic.{_↔_}
 use mathlib.Core.Path.{_≡_, refl, sym, ap}
 use Prim.Native.Nat.{ℕ, _≤_}
@@ -13,11 +13,11 @@ use Rattle.model.specs.declared.Shared.{Shared}
 use Rattle.model.specs.Results.{refused, accepted, unless, firstOf}
 use Rattle.model.specs.Schedules.{bytesOf, stepsOf}
 use Rattle.model.specs.Valid.{faultOf}
-use Rattle.model.specs.Walk.{Step, Config, Walked, startOf, walk, atTarget}
+use Rattle.model.specs.Walk.{Step, Config, Walked, startOf, stepFrom, walk, atTarget}
 use Rattle.model.proofs.Checks.{both-pass}
-use Rattle.model.proofs.Results.{undue}
+use Rattle.model.proofs.Results.{accepted-same, checked, through, undue}
 use Rattle.model.proofs.Stores.{length-bytes, steps-bytes, bytes-steps}
-use Rattle.model.proofs.Tests.{tests, passed}
+use Rattle.model.proofs.Tests.{tests, passed, negated}
 use Rattle.replay.specs.declared.Replayed.the-variants.{Accepted, Refused}
 use Rattle.replay.specs.Replay.{sizeFits, sizeRefusal, replayedBy, replayOf, Legally}
 
@@ -40,6 +40,17 @@ walked m (accepted c) {g} {reached} e =
     let test : reached ≡ atTarget m (c .shared) (c .stacks) = cc in
     (c, refl, same, rw (← same) test)
 
+-- A walk that is not refused does not end after a held step.
+free : (m : Model) (ss : List Step) (c : Config) {d : Config} → walk m c ss ≡ accepted d → d .held ≡ false
+unfolding walk
+free m [] c {d} e =
+    checked 12 (not (c .held)) e λ t w.
+    let same : c ≡ d = accepted-same w in
+    rw same at (negated (c .held) .0 t)
+free m (s ∷ ss) c e =
+    let gone = through (stepFrom m c s) (λ d. walk m d ss) e in
+    free m ss (gone .0) (gone .2)
+
 -- Replay accepts exactly the legal schedules, with the last state of their runs.
 pub accepts : (m : Model) (bs : List ℕ) (g : Shared) (reached : Bool)
     → (replayOf m bs ≡ Accepted g reached) ↔ Legally m bs (g .0) reached
@@ -59,7 +70,7 @@ accepts m bs g reached = (to, from)
           written = sym same;
           most = omega (arith, length-bytes (stepsOf bs), ap length same, z .1);
           stacks = w .0 .stacks;
-          leads = record { turn = w .0 .turn; walked = rw (w .2) at (u .1) };
+          leads = record { turn = w .0 .turn; walked = rw (w .2, free m (stepsOf bs) (startOf m) (u .1)) at (u .1) };
           target = w .3;
         }
 

@@ -1,6 +1,6 @@
--- What replay answers is in range: a walk is refused by 9 or 10 and stays in the states below g, and what is refused before it has a
--- number from 3 on.
-use mathlib.Core.Bool.{Bool, true, false}
+-- What replay answers is in range: a walk is refused by 9, 12 or 10 and stays in the states below g, and what is refused before it has
+-- a number from 3 on.
+use mathlib.Core.Bool.{Bool, true, false, not}
 use mathlib.Core.List.{List, [], _∷_}
 use mathlib.Core.Path.{_≡_, refl}
 use Prim.Native.Nat.{ℕ, zero, suc, _≤_, _<_}
@@ -12,7 +12,7 @@ use Rattle.model.specs.Results.{refused, accepted, need, andThen, unless, refus
 use Rattle.model.specs.Rules.{applies}
 use Rattle.model.specs.Schedules.{stepsOf}
 use Rattle.model.specs.Valid.{Valid, faultOf}
-use Rattle.model.specs.Walk.{Step, Config, Walked, turnFits, after, fire, stepFrom, walk, ownerOf, threadOf, stackOf, startOf}
+use Rattle.model.specs.Walk.{Step, Config, Walked, turnFits, turnFree, after, fire, stepFrom, walk, ownerOf, threadOf, stackOf, startOf}
 use Rattle.model.proofs.Checks.{both-pass}
 use Rattle.model.proofs.Inside.{applies-iff, fits-of}
 use Rattle.model.proofs.Ranges.{valid-fits}
@@ -20,9 +20,9 @@ use Rattle.replay.specs.declared.Replayed.{Replayed}
 use Rattle.replay.specs.declared.Replayed.the-variants.{Accepted, Refused}
 use Rattle.replay.specs.Replay.{sizeFits, sizeRefusal, replayedBy, replayOf}
 
--- A walk is refused by 9 or 10, or ends in a state below g.
+-- A walk is refused by 9, 12 or 10, or ends in a state below g.
 abbrev WalkEnds : ℕ → Walked → Type 0
-WalkEnds g (refused n) = (1 ≤ n) × (n ≤ 10)
+WalkEnds g (refused n) = (1 ≤ n) × (n ≤ 12)
 WalkEnds g (accepted c) = c .shared < g
 
 module _ {m : Model} (f : Fits m) where
@@ -35,13 +35,16 @@ module _ {m : Model} (f : Fits m) where
       go true h = fits-of f (ownerOf (s .turn)) .rules (s .rule) (h tt) .next
       go false h = (omega arith, omega arith)
 
+  -- A test on the way refuses, or leaves the rest.
+  tested : (n : ℕ) (b : Bool) (w : Walked) → (1 ≤ n) × (n ≤ 12) → WalkEnds (m .g) w → WalkEnds (m .g) (need n b w)
+  tested n true w h e = e
+  tested n false w h e = h
+
   stepped : (c : Config) (s : Step) → WalkEnds (m .g) (stepFrom m c s)
   unfolding stepFrom
-  stepped c s = go (turnFits m c s)
-    where
-      go : (b : Bool) → WalkEnds (m .g) (need 9 b (fire m c s (stackOf (ownerOf (s .turn)) (c .stacks))))
-      go true = fired c s _
-      go false = (omega arith, omega arith)
+  stepped c s =
+      tested 9 (turnFits m c s) _ (omega arith, omega arith)
+      (tested 12 (turnFree c s) _ (omega arith, omega arith) (fired c s (stackOf (ownerOf (s .turn)) (c .stacks))))
 
   onward : (x : Walked) (next : Config → Walked) → WalkEnds (m .g) x → ((d : Config) → d .shared < m .g → WalkEnds (m .g) (next d))
       → WalkEnds (m .g) (andThen x next)
@@ -50,12 +53,12 @@ module _ {m : Model} (f : Fits m) where
 
   walks : (ss : List Step) (c : Config) → c .shared < m .g → WalkEnds (m .g) (walk m c ss)
   unfolding walk
-  walks [] c h = h
+  walks [] c h = tested 12 (not (c .held)) (accepted c) (omega arith, omega arith) h
   walks (s ∷ ss) c h = onward (stepFrom m c s) (λ d. walk m d ss) (stepped c s) (λ d k. walks ss d k)
 
--- What replay answers of a valid model: a refusal from 1 to 10, or a state below g.
+-- What replay answers of a valid model: a refusal from 1 to 12, or a state below g.
 abbrev pub Ends : ℕ → Replayed → Type 0
-Ends g (Refused n) = (1 ≤ n) × (n ≤ 10)
+Ends g (Refused n) = (1 ≤ n) × (n ≤ 12)
 Ends g (Accepted q reached) = q .0 < g
 
 pub replay-ends : (m : Model) (bytes : List ℕ) → Valid m → Ends (m .g) (replayOf m bytes)

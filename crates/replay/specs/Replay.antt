@@ -18,11 +18,12 @@ use Rattle.replay.specs.declared.Replayed.the-variants.{Accepted, Refuse
 unfoldable pub sizeFits : List ℕ → Bool
 sizeFits bytes = eqb (length bytes % 2) 0 && leb (length bytes) mostBytes
 
--- What is refused before the walk, in order: the model's fault (3, 4), then the schedule's size (8); 0 for nothing.
+-- What is refused before the walk, in order: the model's fault (3, 4, 11), then the schedule's size (8); 0 for nothing.
 abbrev pub sizeRefusal : Model → List ℕ → ℕ
 sizeRefusal m bytes = firstOf (faultOf m ∷ refuse 8 (sizeFits bytes) ∷ [])
 
--- What a walk's end says: the last shared state, and whether the run ends at the target; or the refusal, the walk's being 9 or 10.
+-- What a walk's end says: the last shared state, and whether the run ends at the target; or the refusal, the walk's being 9,
+-- 12 or 10.
 abbrev pub replayedBy : Model → Walked → Replayed
 replayedBy m (refused n) = Refused n
 replayedBy m (accepted c) = Accepted (record { 0 = c .shared }) (atTarget m (c .shared) (c .stacks))

@@ -64,6 +64,30 @@ fn tops() -> Tally {
     t.counted(agrees(&tops, &twice, 0, 3, false))
 }
 
+// A turn is not left after a held step: not at the end, nor for another turn, be it the same thread's or by a rule that is not there.
+// A turn number that does not fit comes first; within the turn the next rule decides. The models are Two with A's first rule held, with
+// A's second, and with B's only one.
+fn held() -> Tally {
+    let first =
+        *b"\xC8\x83\x04\x01\x00\x00\x00\x00\x00\x00\x00\x03\x06\x00\x00\x00\x01\x00\x01\x01\x20\x03\x01\x03\x10\x02\x00";
+    let second =
+        *b"\xC8\x83\x04\x02\x00\x00\x00\x00\x00\x00\x00\x03\x06\x00\x00\x00\x01\x00\x01\x01\x20\x03\x01\x03\x10\x02\x00";
+    let of_b =
+        *b"\xC8\x83\x08\x01\x00\x00\x00\x00\x00\x00\x00\x03\x06\x00\x00\x00\x01\x00\x01\x01\x20\x03\x01\x03\x10\x02\x00";
+    let once = [0, 0, 0, 1, 1, 0, 2, 2];
+    let mut t = Tally::new();
+    t = t.counted(agrees(&first, &once, 0, 3, true));
+    t = t.counted(agrees(&first, &once[..2], 12, 0, false));
+    t = t.counted(agrees(&first, &[0, 0, 2, 0], 12, 0, false));
+    t = t.counted(agrees(&second, &[], 0, 0, false));
+    t = t.counted(agrees(&second, &once[..4], 12, 0, false));
+    t = t.counted(agrees(&second, &once, 12, 0, false));
+    t = t.counted(agrees(&second, &[0, 1, 1, 9], 12, 0, false));
+    t = t.counted(agrees(&second, &[0, 1, 4, 9], 9, 0, false));
+    t = t.counted(agrees(&second, &[0, 1, 0, 9], 10, 0, false));
+    t.counted(agrees(&of_b, &once, 12, 0, false))
+}
+
 // The longest schedules: 4,095 steps that push, or that keep the top; one step more is refused.
 fn longest() -> Tally {
     let push = [72u8, 1, 1, 6, 0, 0, 0];
@@ -114,6 +138,7 @@ fn file(store: &mut [u8]) {
 fn main() {
     document().report(b"document 01");
     tops().report(b"tops");
+    held().report(b"held rules");
     longest().report(b"longest schedules");
     let mut store = [0u8; 370000];
     file(&mut store);

@@ -10,9 +10,8 @@ use native.Mathlib.Omega.{arith}
 use lib.Dec.{eqb}
 use lib.ListN.{length}
 use lib.Seq.{length-sets}
-use Rattle.model.specs.Bits.{oneIf}
+use Rattle.model.specs.Bits.{oneIf, bitAt}
 use Rattle.model.specs.Lines.{powers, position, digits}
-use Rattle.model.specs.Tables.{bitAt}
 use Rattle.model.proofs.Positions.{digits-position}
 use Rattle.writer.specs.Put.{Put}
 use Rattle.writer.proofs.Puts.{nothing, _then_}

@@ -3,8 +3,8 @@ use mathlib.Core.Bool.{Bool}
 use mathlib.Core.List.{List}
 use Prim.Native.Nat.{ℕ, _*_, _≤_}
 use lib.ListN.{length}
+use Rattle.model.specs.Bits.{bitAt}
 use Rattle.model.specs.Lines.{position}
-use Rattle.model.specs.Tables.{bitAt}
 
 -- The bit at a line's place stands in a line table.
 unfoldable pub standing : ℕ → List ℕ → List ℕ → Bool

@@ -27,7 +27,7 @@ module _ {C S : Type 0} (Move : C → ℕ → S → Right → C → Type 0) (Swi
     change : {c c₁ : C} {γ : ℕ} {d : End C} → Switch c c₁ → T c γ d ≡ T c₁ γ d → Best Ctl c γ d
 
   -- A stretch of just as many steps as its entry says has a tight first move.
-  pub best : {Ctl : C → Type 0} {Sym : ℕ → Type 0} {Ask : Top → Type 0} → Ranged Move Switch Ctl Sym
+  pub best : {Ctl : C → Type 0} {Sym : ℕ → Type 0} {Ask : Top → C → Type 0} → Ranged Move Switch Ctl Sym
       → Closed Move Switch Ctl Sym Ask T → {c : C} {γ : ℕ} {d : End C} {ss rest : List S} → Ctl c → Sym γ → Asks Ask d
       → Stretch Move Switch c γ d ss rest → T c γ d + length rest ≡ length ss → Best Ctl c γ d
   best R K {c} {γ} p q k (Stretch.here {top = top} o) e = let z : T c γ (stay top c) ≡ 0 = omega arith in here o z
@@ -57,7 +57,7 @@ module _ {C S : Type 0} (Move : C → ℕ → S → Right → C → Type 0) (Swi
       change s z
 
   -- Exact entries are closed: what is made of stretches that exist is one that exists, and its entry is no more.
-  pub exact-closed : {Ctl : C → Type 0} {Sym : ℕ → Type 0} {Ask : Top → Type 0} → Ranged Move Switch Ctl Sym
+  pub exact-closed : {Ctl : C → Type 0} {Sym : ℕ → Type 0} {Ask : Top → C → Type 0} → Ranged Move Switch Ctl Sym
       → ((c : C) (γ : ℕ) (d : End C) → Ctl c → Sym γ → Dest Move Switch Ctl Sym Ask d → Exact Move Switch c γ d (T c γ d))
       → Closed Move Switch Ctl Sym Ask T
   exact-closed R E =

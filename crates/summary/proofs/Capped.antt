@@ -6,7 +6,7 @@ use native.Mathlib.Decide.{decLt}
 use native.Mathlib.Nat.{le-refl, le-trans}
 use native.Mathlib.Omega.{arith}
 use lib.Dec.{ltb, eqb}
-use Rattle.summary.specs.Cells.{first, blank, Reset, Solved}
+use Rattle.summary.specs.Cells.{freeOf, first, blank, Reset, Solved}
 use Rattle.summary.specs.Edges.{Edge, cell, Counts, Relaxed}
 use Rattle.summary.specs.Table.{unreached}
 
@@ -23,24 +23,24 @@ pub rows-in : {bound end more : ℕ} {t : List ℕ} → Counts bound t → (end 
 rows-in {t = t} c h = (within (λ at. le-refl (cell t at)) c (h .0), within (λ at. le-refl (cell t at)) c (h .1))
 
 -- A blank cell holds one.
-blank-count : (at : ℕ) → blank at ≤ unreached
+blank-count : (N at : ℕ) → blank N at ≤ unreached
 unfolding blank
-blank-count at = either (ltb at first && eqb (at % 12) (4 + at / 204))
+blank-count N at = either (ltb at (first (freeOf N)) && eqb (at % 16) (4 + at / 272))
   where
     either : (zero : Bool) → cond zero 0 unreached ≤ unreached
     either true = omega arith
     either false = omega arith
 
 -- What is solved, and a part made blank after it.
-pub reset-counts : {W : Edge → Type 0} {low high : ℕ} {t u : List ℕ} → Solved W low t → Reset low high t u → Counts high u
-reset-counts {low = low} s r =
+pub reset-counts : {W : Edge → Type 0} {N low high : ℕ} {t u : List ℕ} → Solved N W low t → Reset N low high t u → Counts high u
+reset-counts {N = N} {low = low} s r =
     record {
       most = λ at h. elim (decLt at low) [
-        | yes l ↦ rw (r .below at l) (le-trans (s .low at l) (blank-count at))
-        | no n ↦ rw (r .inside at (omega arith) h) (blank-count at)
+        | yes l ↦ rw (r .below at l) (le-trans (s .low at l) (blank-count N at))
+        | no n ↦ rw (r .inside at (omega arith) h) (blank-count N at)
       ];
     }
 
 -- The first part made blank.
-pub blank-counts : {bound : ℕ} {t u : List ℕ} → Reset 0 bound t u → Counts bound u
-blank-counts r = record { most = λ at h. rw (r .inside at (omega arith) h) (blank-count at) }
+pub blank-counts : {N bound : ℕ} {t u : List ℕ} → Reset N 0 bound t u → Counts bound u
+blank-counts {N} r = record { most = λ at h. rw (r .inside at (omega arith) h) (blank-count N at) }

@@ -12,72 +12,78 @@ use Rattle.model.specs.declared.Thread.{Thread}
 use Rattle.model.specs.declared.Top.{Top}
 use Rattle.model.specs.Walk.{Step}
 use Rattle.model.specs.Fits.{TopFits, ThreadFits}
-use Rattle.summary.specs.Cells.{first, second, size, blank, Plain, First, Second, Solved}
-use Rattle.summary.specs.Control.{Control, TurnEnd, Moves, Switches, dest, cellOf, entry, InTable, Known, EndInTable, Inside, Summed}
+use Rattle.summary.specs.Cells.{controlsOf, freeOf, first, second, size, blank, Plain, First, Second, Solved}
+use Rattle.summary.specs.Control.{Control, number, TurnEnd, Moves, Switches, dest, cellFrom, entry, InTable, Stays, EndInTable, Inside, Summed}
 use Rattle.summary.specs.Edges.{cell, From}
 use Rattle.summary.specs.Stretch.{End, endOf, Asks}
 use Rattle.summary.specs.Table.{cap, Uses}
 use Rattle.summary.proofs.Complete.{EdgesHold, closed}
-use Rattle.summary.proofs.Joins.{dests-range, dest-low}
+use Rattle.summary.proofs.Numbers.{controls-range, shape-fits, dest-low}
 use Rattle.summary.proofs.Ranging.{ranged}
 use Rattle.summary.proofs.Relaxing.{wider}
 use Rattle.summary.proofs.Sound.{sound}
 use Rattle.summary.proofs.Tables.{bounded}
 
--- Where the part of the table with so many turn ends inside stops.
-abbrev bound : ℕ → ℕ
-bound zero = first
-bound (suc zero) = second
-bound (suc (suc n)) = size
+-- Where the part of a table of N controls with so many turn ends inside stops.
+abbrev bound : ℕ → ℕ → ℕ
+bound N zero = first N
+bound N (suc zero) = second N
+bound N (suc (suc n)) = size N
 
 -- A cell is within its part of the table.
-cell-low : (ends : ℕ → TurnEnd) (G : ℕ) (n k : ℕ) (c : Control) (γ d : ℕ) → G ≤ 4 → n ≤ 2 → Inside G n ends
-    → c .passed + k ≤ n → c .shared < G → γ ≤ 16 → d < 12
-    → cellOf ends k c γ d < bound n
-cell-low ends G zero zero c γ d four two inside e g s i = omega arith
-cell-low ends G (suc zero) zero c γ d four two inside e g s i = omega arith
-cell-low ends G (suc (suc n)) zero c γ d four two inside e g s i = omega arith
-cell-low ends G zero (suc k) c γ d four two inside e g s i = absurd (omega arith)
-cell-low ends G (suc zero) (suc zero) c γ d four two inside e g s i = let l = inside (c .passed) (omega arith) in omega arith
-cell-low ends G (suc (suc n)) (suc zero) c γ d four two inside e g s i = let l = inside (c .passed) (omega arith) in omega arith
-cell-low ends G (suc zero) (suc (suc k)) c γ d four two inside e g s i = absurd (omega arith)
-cell-low ends G (suc (suc n)) (suc (suc k)) c γ d four two inside e g s i = let l = inside (suc (c .passed)) (omega arith) in omega arith
+cell-low : (ends : ℕ → TurnEnd) (N n k j p γ d : ℕ) → n ≤ 2 → Inside 4 n ends → j + k ≤ n → p < N → γ ≤ 16 → d < 16
+    → cellFrom N ends k j p γ d < bound N n
+cell-low ends N zero zero j p γ d two inside e g s i = omega arith
+cell-low ends N (suc zero) zero j p γ d two inside e g s i = omega arith
+cell-low ends N (suc (suc n)) zero j p γ d two inside e g s i = omega arith
+cell-low ends N zero (suc k) j p γ d two inside e g s i = absurd (omega arith)
+cell-low ends N (suc zero) (suc zero) j p γ d two inside e g s i = let l = inside j (omega arith) in omega arith
+cell-low ends N (suc (suc n)) (suc zero) j p γ d two inside e g s i = let l = inside j (omega arith) in omega arith
+cell-low ends N (suc zero) (suc (suc k)) j p γ d two inside e g s i = absurd (omega arith)
+cell-low ends N (suc (suc n)) (suc (suc k)) j p γ d two inside e g s i = let l = inside (suc j) (omega arith) in omega arith
 
-module _ {t : Thread} {top : Top} {G n : ℕ} {ends : ℕ → TurnEnd} {tab : List ℕ} (fits : ThreadFits G t) (named : TopFits top) (four : G ≤ 4) (two : n ≤ 2) (inside : Inside G n ends)
-    (R : EdgesHold t top G n ends tab) (from : (k : ℕ) → k < bound n → From (Second t top G (ends 0 .leave) (ends 0 .enter)) blank k (cell tab k)) where
+module _ {t : Thread} {top : Top} {G n : ℕ} {ends : ℕ → TurnEnd} {tab : List ℕ} (fits : ThreadFits G t) (named : TopFits top) (some : 1 ≤ G) (four : G ≤ 4) (two : n ≤ 2) (inside : Inside G n ends)
+    (R : EdgesHold t top (controlsOf t G) n ends tab)
+    (from : (k : ℕ) → k < bound (controlsOf t G) n → From (Second t top (controlsOf t G) (ends 0 .leave) (ends 0 .enter)) (blank (controlsOf t G)) k (cell tab k)) where
   -- A table whose edges hold and whose counts follow by them is exact.
   pub summed : Summed t top G n ends tab
-  summed = record { exact = λ turnOf c γ d p q o. record { some = some turnOf c γ d p q o; least = λ {ss} s. least turnOf c γ d p q (o .1) ss s } }
+  summed = record { exact = λ turnOf c γ d p q o. record { some = found turnOf c γ d p q o; least = λ {ss} s. least turnOf c γ d p q (o .1) ss s } }
     where
-      least : (turnOf : ℕ → ℕ) (c : Control) (γ : ℕ) (d : End Control) → InTable G n c → γ ≤ 16 → Asks (Known top) d
+      least : (turnOf : ℕ → ℕ) (c : Control) (γ : ℕ) (d : End Control) → InTable (controlsOf t G) n c → γ ≤ 16 → Asks (Stays top) d
           → (us : List Step) → Uses (Moves t turnOf) (Switches ends n) c γ d us
-          → (entry ends tab c γ d ≤ cap) × (entry ends tab c γ d ≤ length us)
+          → (entry (controlsOf t G) ends tab c γ d ≤ cap) × (entry (controlsOf t G) ends tab c γ d ≤ length us)
       least turnOf c γ d p q k us s =
-          let b = bounded _ _ _ _ _ (ranged turnOf fits inside) (closed turnOf fits four two inside R) p q k (s []) in
+          let range = controls-range t G in
+          let ranges = ranged turnOf four fits inside in
+          let small : Inside (freeOf (controlsOf t G)) n ends = λ j l. let z = inside j l in (omega arith, omega arith) in
+          let b = bounded _ _ _ _ _ ranges (closed turnOf (omega arith) (omega arith) two small ranges R) p q k (s []) in
           (b .reached, omega (arith, b .most, ap length (append-nil us)))
 
-      some : (turnOf : ℕ → ℕ) (c : Control) (γ : ℕ) (d : End Control) → InTable G n c → γ ≤ 16
-          → EndInTable top G n d → entry ends tab c γ d ≤ cap
-          → (us : List Step) × Uses (Moves t turnOf) (Switches ends n) c γ d us × (min (length us) cap ≡ entry ends tab c γ d)
-      some turnOf c γ d p q o h =
+      found : (turnOf : ℕ → ℕ) (c : Control) (γ : ℕ) (d : End Control) → InTable (controlsOf t G) n c → γ ≤ 16
+          → EndInTable top (controlsOf t G) n d → entry (controlsOf t G) ends tab c γ d ≤ cap
+          → (us : List Step) × Uses (Moves t turnOf) (Switches ends n) c γ d us × (min (length us) cap ≡ entry (controlsOf t G) ends tab c γ d)
+      found turnOf c γ d p q o h =
           elim (decLe (c .passed) (endOf d .passed)) [
             | yes l ↦
+                let range = controls-range t G in
+                let shape = shape-fits top (controlsOf t G) (omega arith) (omega arith) in
                 let k : ℕ = endOf d .passed - c .passed in
-                let at : ℕ = cellOf ends k c γ (dest d) in
-                let same : entry ends tab c γ d ≡ cell tab at = rw (le-leb (c .passed) (endOf d .passed) l) in
-                let low = cell-low ends G n k c γ (dest d) four two inside (omega arith) (p .1) q (omega (arith, dest-low top d four o, dests-range top)) in
-                let u = sound t top G turnOf ends n fits named four two (λ j i. let z = inside j i in (omega arith, omega arith)) (from at low)
-                c γ d l (o .0 .0) (p .1) q (o .0 .1) (o .1) refl (rw same at h) in
+                let at : ℕ = cellFrom (controlsOf t G) ends k (c .passed) (number c) γ (dest d) in
+                let same : entry (controlsOf t G) ends tab c γ d ≡ cell tab at = rw (le-leb (c .passed) (endOf d .passed) l) in
+                let low = cell-low ends (controlsOf t G) n k (c .passed) (number c) γ (dest d) two (λ j i. let z = inside j i in (omega arith, omega arith)) (omega (arith, o .0 .passed)) (p .number) q
+                (omega (arith, dest-low top (controlsOf t G) d (omega arith) o, shape .dests)) in
+                let u = sound t top G turnOf ends n fits named some four two inside (from at low) c γ d l p q o refl (rw same at h) in
                 let b = least turnOf c γ d p q (o .1) (u .0) (u .1) in
                 (u .0, u .1, omega (arith, same, u .2, b .1))
             | no l ↦ absurd (omega (arith, rw (lt-leb (c .passed) (endOf d .passed) (omega arith)) at h))
           ]
 
 -- The three solved tables.
-pub plain-summed : {t : Thread} {top : Top} {G : ℕ} {tab : List ℕ} → ThreadFits G t → TopFits top → G ≤ 4 → Solved (Plain t top G) first tab
+pub plain-summed : {t : Thread} {top : Top} {G : ℕ} {tab : List ℕ} → ThreadFits G t → TopFits top → 1 ≤ G → G ≤ 4
+    → Solved (controlsOf t G) (Plain t top (controlsOf t G)) (first (controlsOf t G)) tab
     → (ends : ℕ → TurnEnd) → Summed t top G 0 ends tab
-plain-summed f k g s ends =
-    summed f k g (omega arith) (λ j h. absurd (omega arith))
+plain-summed f k o g s ends =
+    summed f k o g (omega arith) (λ j h. absurd (omega arith))
     (record {
       low = s .low;
       tops = λ e p. s .closed e (inl p);
@@ -90,10 +96,11 @@ plain-summed f k g s ends =
     })
     (λ k h. wider (λ e p. inl (inl p)) (s .derived k h))
 
-pub first-summed : {t : Thread} {top : Top} {G : ℕ} {tab : List ℕ} → ThreadFits G t → TopFits top → G ≤ 4 → Solved (First t top G) second tab
+pub first-summed : {t : Thread} {top : Top} {G : ℕ} {tab : List ℕ} → ThreadFits G t → TopFits top → 1 ≤ G → G ≤ 4
+    → Solved (controlsOf t G) (First t top (controlsOf t G)) (second (controlsOf t G)) tab
     → (ends : ℕ → TurnEnd) → Inside G 1 ends → Summed t top G 1 ends tab
-first-summed f k g s ends i =
-    summed f k g (omega arith) i
+first-summed f k o g s ends i =
+    summed f k o g (omega arith) i
     (record {
       low = λ k h. s .low k (omega arith);
       tops = λ e p. s .closed e (inl (inl p));
@@ -106,12 +113,12 @@ first-summed f k g s ends i =
     })
     (λ k h. wider (λ e p. inl p) (s .derived k h))
 
-pub second-summed : {t : Thread} {top : Top} {G o i : ℕ} {tab : List ℕ} → ThreadFits G t → TopFits top → G ≤ 4
-    → Solved (Second t top G o i) size tab
+pub second-summed : {t : Thread} {top : Top} {G o i : ℕ} {tab : List ℕ} → ThreadFits G t → TopFits top → 1 ≤ G → G ≤ 4
+    → Solved (controlsOf t G) (Second t top (controlsOf t G) o i) (size (controlsOf t G)) tab
     → (ends : ℕ → TurnEnd) → Inside G 2 ends → ends 0 .leave ≡ o → ends 0 .enter ≡ i → Summed t top G 2 ends tab
-second-summed {t} {top} {G} {o} {i} {tab} f k g s ends n p q =
-    let r : Solved (Second t top G (ends 0 .leave) (ends 0 .enter)) size tab = rw (p, q) s in
-    summed f k g (omega arith) n
+second-summed {t} {top} {G} {o} {i} {tab} f k l g s ends n p q =
+    let r : Solved (controlsOf t G) (Second t top (controlsOf t G) (ends 0 .leave) (ends 0 .enter)) (size (controlsOf t G)) tab = rw (p, q) s in
+    summed f k l g (omega arith) n
     (record {
       low = λ k h. r .low k (omega arith);
       tops = λ e x. r .closed e (inl (inl (inl x)));

@@ -3,11 +3,13 @@ pub mod Capped
 pub mod CellNumbers
 pub mod Complete
 pub mod Exacts
+pub mod Fitting
 pub mod Floors
 pub mod Joins
 pub mod Leasts
 pub mod Loops
 pub mod Meanings
+pub mod Numbers
 pub mod Overs
 pub mod Ranging
 pub mod Reaches

@@ -30,31 +30,31 @@ moved : {t u : List ℕ} {e : Edge} → cell u (e .to) ≡ cell t (e .to) → ce
 moved k a b h = record { reached = rw (k, a, b) (h .reached); most = rw (k, a, b) (h .most) }
 
 -- The same cells, solved for a set with the same edges.
-pub alike : {P Q : Edge → Type 0} {bound : ℕ} {t : List ℕ} → ((e : Edge) → P e → Q e) → ((e : Edge) → Q e → P e)
-    → Solved P bound t → Solved Q bound t
+pub alike : {N : ℕ} {P Q : Edge → Type 0} {bound : ℕ} {t : List ℕ} → ((e : Edge) → P e → Q e) → ((e : Edge) → Q e → P e)
+    → Solved N P bound t → Solved N Q bound t
 alike h k s = record { derived = λ i l. wider h (s .derived i l); low = s .low; closed = λ e q. s .closed e (k e q) }
 
 -- The first part, from a blank one: edges between parts that are 0 once, then others until nothing changes.
-module _ {O W : Edge → Type 0} {bound : ℕ} {t u v z : List ℕ} {changes : ℕ} (once : (e : Edge) → O e → Span 0 bound bound e)
-    (own : (e : Edge) → W e → Span 0 bound bound e) (r : Reset 0 bound t u)
+module _ {N : ℕ} {O W : Edge → Type 0} {bound : ℕ} {t u v z : List ℕ} {changes : ℕ} (once : (e : Edge) → O e → Span 0 bound bound e)
+    (own : (e : Edge) → W e → Span 0 bound bound e) (r : Reset N 0 bound t u)
     (zeros : (e : Edge) → O e → (cell u (e .a) ≡ 0) × (cell u (e .b) ≡ 0)) (f : Relaxed O u v changes) (c : Closes W v z) where
   -- What is 0 stays so.
   zero-still : (k : ℕ) → cell u k ≡ 0 → (cell v k ≡ cell u k) × (cell z k ≡ cell v k)
   zero-still k e = (omega (arith, f .low k), omega (arith, f .low k, c .low k))
 
-  pub solves-first : Solved (λ e. O e ⊎ W e) bound z
+  pub solves-first : Solved N (λ e. O e ⊎ W e) bound z
   solves-first = record { derived = derived; low = low; closed = closed }
     where
-      start : (k : ℕ) → k < bound → From (λ e. O e ⊎ W e) blank k (cell u k)
+      start : (k : ℕ) → k < bound → From (λ e. O e ⊎ W e) (blank N) k (cell u k)
       start k h = rw (r .inside k (omega arith) h) (kept k)
 
-      between : (k : ℕ) → k < bound → From (λ e. O e ⊎ W e) blank k (cell v k)
+      between : (k : ℕ) → k < bound → From (λ e. O e ⊎ W e) (blank N) k (cell v k)
       between k h = inward bound (λ e o. (once e o .a, once e o .b)) (λ e. inl) start h (f .derived k)
 
-      derived : (k : ℕ) → k < bound → From (λ e. O e ⊎ W e) blank k (cell z k)
+      derived : (k : ℕ) → k < bound → From (λ e. O e ⊎ W e) (blank N) k (cell z k)
       derived k h = inward bound (λ e w. (own e w .a, own e w .b)) (λ e. inr) between h (c .derived k)
 
-      low : (k : ℕ) → k < bound → cell z k ≤ blank k
+      low : (k : ℕ) → k < bound → cell z k ≤ blank N k
       low k h = rw (r .inside k (omega arith) h) at (le-trans (c .low k) (f .low k))
 
       closed : (e : Edge) → O e ⊎ W e → EdgeHolds z e
@@ -65,10 +65,10 @@ module _ {O W : Edge → Type 0} {bound : ℕ} {t u v z : List ℕ} {changes : �
       closed e (inr w) = c .closed e w
 
 -- The next part: blank, then edges from the parts before it once, then its own edges until nothing changes.
-module _ {S O W : Edge → Type 0} {low high end : ℕ} {t u v z : List ℕ} {changes : ℕ} (lh : low ≤ high) (he : high ≤ end)
+module _ {N : ℕ} {S O W : Edge → Type 0} {low high end : ℕ} {t u v z : List ℕ} {changes : ℕ} (lh : low ≤ high) (he : high ≤ end)
     (spans : (e : Edge) → S e → Span 0 low low e) (once : (e : Edge) → O e → Span low high low e)
     (own : (e : Edge) → W e → Span low high high e)
-    (s : Solved S low t) (r : Reset low end t u) (f : Relaxed O u v changes) (c : Closes W v z) where
+    (s : Solved N S low t) (r : Reset N low end t u) (f : Relaxed O u v changes) (c : Closes W v z) where
   -- Below, nothing changes.
   kept-once : (k : ℕ) → k < low → cell v k ≡ cell u k
   kept-once k h = unled (λ e o q. omega (arith, once e o .from)) (f .derived k)
@@ -84,7 +84,7 @@ module _ {S O W : Edge → Type 0} {low high end : ℕ} {t u v z : List ℕ} {ch
       let p = spans e w in
       moved (same (e .to) (p .to)) (same (e .a) (p .a)) (same (e .b) (p .b)) (s .closed e w)
 
-  solved-still : Solved S low z
+  solved-still : Solved N S low z
   solved-still =
       record {
         derived = λ k h. rw (same k h) (s .derived k h);
@@ -92,24 +92,24 @@ module _ {S O W : Edge → Type 0} {low high end : ℕ} {t u v z : List ℕ} {ch
         closed = held;
       }
 
-  solved-next : Solved (λ e. S e ⊎ (O e ⊎ W e)) high z
+  solved-next : Solved N (λ e. S e ⊎ (O e ⊎ W e)) high z
   solved-next = record { derived = third; low = falls; closed = closed }
     where
-      first : (k : ℕ) → k < high → From (λ e. S e ⊎ (O e ⊎ W e)) blank k (cell u k)
+      first : (k : ℕ) → k < high → From (λ e. S e ⊎ (O e ⊎ W e)) (blank N) k (cell u k)
       first k h =
           elim (decLt k low) [
             | yes l ↦ rw (r .below k l) (wider (λ e. inl) (s .derived k l))
             | no n ↦ rw (r .inside k (omega arith) (omega arith)) (kept k)
           ]
 
-      second : (k : ℕ) → k < high → From (λ e. S e ⊎ (O e ⊎ W e)) blank k (cell v k)
+      second : (k : ℕ) → k < high → From (λ e. S e ⊎ (O e ⊎ W e)) (blank N) k (cell v k)
       second k h =
           inward high (λ e o. let p = once e o in (omega arith, omega arith)) (λ e o. inr (inl o)) first h (f .derived k)
 
-      third : (k : ℕ) → k < high → From (λ e. S e ⊎ (O e ⊎ W e)) blank k (cell z k)
+      third : (k : ℕ) → k < high → From (λ e. S e ⊎ (O e ⊎ W e)) (blank N) k (cell z k)
       third k h = inward high (λ e w. (own e w .a, own e w .b)) (λ e w. inr (inr w)) second h (c .derived k)
 
-      falls : (k : ℕ) → k < high → cell z k ≤ blank k
+      falls : (k : ℕ) → k < high → cell z k ≤ blank N k
       falls k h =
           elim (decLt k low) [
             | yes l ↦ rw (same k l) (s .low k l)
@@ -124,13 +124,13 @@ module _ {S O W : Edge → Type 0} {low high end : ℕ} {t u v z : List ℕ} {ch
           (f .closed e o (kept-once (e .a) (p .a)) (kept-once (e .b) (p .b)))
       closed e (inr (inr w)) = c .closed e w
 
-  pub solves-next : Solved (λ e. S e ⊎ (O e ⊎ W e)) high z × Solved S low z
+  pub solves-next : Solved N (λ e. S e ⊎ (O e ⊎ W e)) high z × Solved N S low z
   solves-next = (solved-next, solved-still)
 
 -- The edges relaxed once may be two sets.
-pub apart : {S P Q W : Edge → Type 0} {bound : ℕ} {t : List ℕ}
-    → Solved (λ e. S e ⊎ ((P e ⊎ Q e) ⊎ W e)) bound t → Solved (λ e. S e ⊎ (P e ⊎ (Q e ⊎ W e))) bound t
-apart {S} {P} {Q} {W} = alike right left
+pub apart : {N : ℕ} {S P Q W : Edge → Type 0} {bound : ℕ} {t : List ℕ}
+    → Solved N (λ e. S e ⊎ ((P e ⊎ Q e) ⊎ W e)) bound t → Solved N (λ e. S e ⊎ (P e ⊎ (Q e ⊎ W e))) bound t
+apart {N} {S} {P} {Q} {W} = alike right left
   where
     right : (e : Edge) → S e ⊎ ((P e ⊎ Q e) ⊎ W e) → S e ⊎ (P e ⊎ (Q e ⊎ W e))
     right e (inl x) = inl x

@@ -8,12 +8,12 @@ use Rattle.model.specs.declared.Right.the-variants.{Remove, Swap, Push}
 use Rattle.model.specs.declared.Thread.{Thread}
 use Rattle.model.specs.declared.Top.{Top}
 use Rattle.model.specs.declared.Top.the-variants.{Any, Named}
-use Rattle.model.specs.Rules.{ruleAt}
-use Rattle.model.specs.Fits.{RightFits, TopFits, ThreadFits}
+use Rattle.model.specs.Fits.{RightFits, TopFits}
+use Rattle.summary.specs.declared.Shape.{Shape}
 use Rattle.summary.specs.Edges.{Edge, Row, Below}
-use Rattle.summary.specs.Cells.{plain, lane, first, part, second, size, destsOf, TopEdges, plainBy, laneBy, crossBy}
-use Rattle.summary.specs.Cells.{PlainRule, LaneRule, CrossRule, FirstEnds, SecondEnds, Rules, Plain, First}
-use Rattle.summary.proofs.Joins.{dests-range}
+use Rattle.summary.specs.Cells.{plain, gone, lane, first, part, second, size, shapeOf, ShapeFits, TopEdges, plainBy, laneBy, crossBy}
+use Rattle.summary.specs.Cells.{FirstEnds, SecondEnds, Rules, Plain, First}
+use Rattle.summary.specs.Kinds.{RulesIn}
 
 -- An edge leads to a cell between two bounds, and its parts lie below a third.
 pub record Span (low high parts : ℕ) (e : Edge) : Type 0 where
@@ -27,85 +27,97 @@ row-span : {low high parts : ℕ} (w k a b n : ℕ) → (low ≤ k) × (k + n �
 row-span {low} {high} {parts} w k a b n fits e r =
     let x = r .inside in subst (Span low high parts) (sym (r .is)) (omega arith)
 
--- The edges of a rule, by its right side.
-module _ (ds n g γ h : ℕ) (most : ds ≤ 12) (few : n ≤ 4) (gs : g < n) (γs : γ ≤ 15) (hs : h < n) where
-  plain-right : (x : Right) → RightFits x → (e : Edge) → plainBy ds n g γ h x e → Span 0 first first e
+-- The edges of a rule from control p to control h, by its right side.
+module _ (sh : Shape) (fits : ShapeFits sh) (p γ h : ℕ) (ps : p < sh .controls) (γs : γ ≤ 15) (hs : h < sh .controls) where
+  plain-right : (x : Right) → RightFits x → (e : Edge) → plainBy sh p γ h x e → Span 0 (first (sh .controls)) (first (sh .controls)) e
   plain-right Remove f e r = row-span _ _ _ _ _ (omega arith) e r
   plain-right (Swap a) f e r = row-span _ _ _ _ _ (omega arith) e r
   plain-right (Push a b) f e (inl r) =
       let q = r .inside in row-span _ _ _ _ _ (omega arith) e (r .at)
   plain-right (Push a b) f e (inr r) = row-span _ _ _ _ _ (omega arith) e r
 
-  lane-right : (base : ℕ) (x : Right) → RightFits x → (e : Edge) → laneBy ds base n g γ h x e
-      → Span base (base + part) (base + part) e
-  lane-right base Remove f e r = absurd r
-  lane-right base (Swap a) f e r = row-span _ _ _ _ _ (omega arith) e r
-  lane-right base (Push a b) f e (inl r) = go (r .i) (r .inside) (r .at)
+  lane-right : (base : ℕ) → first (sh .controls) ≤ base → (x : Right) → RightFits x → (e : Edge) → laneBy sh base p γ h x e
+      → Span base (base + part (sh .controls)) (base + part (sh .controls)) e
+  lane-right base low Remove f e r = absurd r
+  lane-right base low (Swap a) f e r = row-span _ _ _ _ _ (omega arith) e r
+  lane-right base low (Push a b) f e (inl r) = go (r .i) (r .inside) (r .at)
     where
-      go : (q : ℕ) → q < n
-          → Row 1 (lane base g γ 0) (plain h (a .0) q) (lane base q (b .0) 0) (ds * 16) e ⊎
-          Below ds (λ i. Row 1 (lane base g γ i) (plain q (b .0) i) (lane base h (a .0) q) 16) e
-          → Span base (base + part) (base + part) e
+      go : (q : ℕ) → q < sh .controls
+          → Row 1 (lane base p γ 0) (plain h (a .0) (gone q)) (lane base q (b .0) 0) (sh .dests * 16) e ⊎
+          Below (sh .dests) (λ i. Row 1 (lane base p γ i) (plain q (b .0) i) (lane base h (a .0) (gone q)) 16) e
+          → Span base (base + part (sh .controls)) (base + part (sh .controls)) e
       go q l (inl s) = row-span _ _ _ _ _ (omega arith) e s
       go q l (inr s) =
           let d = s .inside in row-span _ _ _ _ _ (omega arith) e (s .at)
-  lane-right base (Push a b) f e (inr r) = row-span _ _ _ _ _ (omega arith) e r
+  lane-right base low (Push a b) f e (inr r) = row-span _ _ _ _ _ (omega arith) e r
 
-  cross-right : (l : ℕ) → l < 16 → (x : Right) → RightFits x → (e : Edge) → crossBy ds l n g γ h x e → Span second size second e
+  cross-right : (l : ℕ) → l < 16 → (x : Right) → RightFits x → (e : Edge) → crossBy sh l p γ h x e
+      → Span (second (sh .controls)) (size (sh .controls)) (second (sh .controls)) e
   cross-right l i Remove f e r = absurd r
   cross-right l i (Swap a) f e r = absurd r
   cross-right l i (Push a b) f e r =
       let q = r .inside in row-span _ _ _ _ _ (omega arith) e (r .at)
 
 -- The edges of all rules of a thread.
-module _ (th : Thread) (ds n : ℕ) (most : ds ≤ 12) (few : n ≤ 4) (fits : ThreadFits n th) where
-  pub plain-span : (e : Edge) → Rules th (PlainRule ds n) e → Span 0 first first e
-  plain-span e r =
-      let f = fits .rules (r .i) (r .inside) in
-      plain-right ds n _ _ _ most few (f .state) (f .top) (f .next) (ruleAt th (r .i) .right) (f .symbols) e (r .at)
+module _ (th : Thread) (sh : Shape) (fits : ShapeFits sh) (within : RulesIn (sh .controls) th) where
+  -- What holds of the edges of a rule from each control holds of those of all rules.
+  each : (F : ℕ → ℕ → ℕ → Right → Edge → Type 0) (P : Edge → Type 0)
+      → ((p γ h : ℕ) (x : Right) → p < sh .controls → γ ≤ 15 → h < sh .controls → RightFits x → (e : Edge) → F p γ h x e → P e)
+      → (e : Edge) → Rules th (sh .controls) F e → P e
+  each F P holds e r =
+      let f = within .rules (r .at .i) (r .at .inside) in
+      holds _ _ _ _ (f .from (r .i) (r .inside)) (f .top) (f .to) (f .symbols) e (r .at .at)
 
-  pub lane-span : (base : ℕ) (e : Edge) → Rules th (LaneRule ds base n) e → Span base (base + part) (base + part) e
-  lane-span base e r =
-      let f = fits .rules (r .i) (r .inside) in
-      lane-right ds n _ _ _ most few (f .state) (f .top) (f .next) base (ruleAt th (r .i) .right) (f .symbols) e (r .at)
+  pub plain-span : (e : Edge) → Rules th (sh .controls) (plainBy sh) e → Span 0 (first (sh .controls)) (first (sh .controls)) e
+  plain-span =
+      each (plainBy sh) (Span 0 (first (sh .controls)) (first (sh .controls)))
+      (λ p γ h x ps γs hs f e w. plain-right sh fits p γ h ps γs hs x f e w)
 
-  pub cross-span : (l : ℕ) → l < 16 → (e : Edge) → Rules th (CrossRule ds l n) e → Span second size second e
-  cross-span l i e r =
-      let f = fits .rules (r .i) (r .inside) in
-      cross-right ds n _ _ _ most few (f .state) (f .top) (f .next) l i (ruleAt th (r .i) .right) (f .symbols) e (r .at)
+  pub lane-span : (base : ℕ) → first (sh .controls) ≤ base → (e : Edge) → Rules th (sh .controls) (laneBy sh base) e
+      → Span base (base + part (sh .controls)) (base + part (sh .controls)) e
+  lane-span base low =
+      each (laneBy sh base) (Span base (base + part (sh .controls)) (base + part (sh .controls)))
+      (λ p γ h x ps γs hs f e w. lane-right sh fits p γ h ps γs hs base low x f e w)
+
+  pub cross-span : (l : ℕ) → l < 16 → (e : Edge) → Rules th (sh .controls) (crossBy sh l) e
+      → Span (second (sh .controls)) (size (sh .controls)) (second (sh .controls)) e
+  cross-span l i =
+      each (crossBy sh l) (Span (second (sh .controls)) (size (sh .controls)) (second (sh .controls)))
+      (λ p γ h x ps γs hs f e w. cross-right sh fits p γ h ps γs hs l i x f e w)
 
 -- The named top.
-pub top-span : (top : Top) (n : ℕ) → TopFits top → n ≤ 4 → (e : Edge) → TopEdges top n e → Span 0 first first e
-top-span Any n fits few e r = absurd r
-top-span (Named s) n fits few e r = let q = r .inside in row-span _ _ _ _ _ (omega arith) e (r .at)
+pub top-span : (top : Top) (N : ℕ) → TopFits top → 1 ≤ N → (e : Edge) → TopEdges top N e → Span 0 (first N) (first N) e
+top-span Any N fits some e r = absurd r
+top-span (Named s) N fits some e r = let q = r .inside in row-span _ _ _ _ _ (omega arith) e (r .at)
 
 -- All edges within one turn.
-pub plains-span : (th : Thread) (top : Top) (n : ℕ) → n ≤ 4 → TopFits top → ThreadFits n th → (e : Edge) → Plain th top n e
-    → Span 0 first first e
-plains-span th top n few named fits e (inl r) = top-span top n named few e r
-plains-span th top n few named fits e (inr r) = plain-span th (destsOf top) n (dests-range top .1) few fits e r
+pub plains-span : (th : Thread) (top : Top) (N : ℕ) → ShapeFits (shapeOf top N) → TopFits top → RulesIn N th → (e : Edge) → Plain th top N e
+    → Span 0 (first N) (first N) e
+plains-span th top N shape named within e (inl r) = top-span top N named (shape .some) e r
+plains-span th top N shape named within e (inr r) = plain-span th (shapeOf top N) shape within e r
 
 -- Turn ends.
-pub first-ends-span : (ds n : ℕ) → ds ≤ 12 → n ≤ 4 → (e : Edge) → FirstEnds ds n e → Span first second first e
-first-ends-span ds n most few e r =
+pub first-ends-span : (sh : Shape) → ShapeFits sh → (e : Edge) → FirstEnds sh e
+    → Span (first (sh .controls)) (second (sh .controls)) (first (sh .controls)) e
+first-ends-span sh fits e r =
     let o = r .inside in
     let i = r .at .inside in
     let γ = r .at .at .inside in
     let d = r .at .at .at .inside in
     row-span _ _ _ _ _ (omega arith) e (r .at .at .at .at)
 
-pub second-ends-span : (ds o i : ℕ) → ds ≤ 12 → o < 4 → i < 4 → (e : Edge) → SecondEnds ds o i e → Span second size second e
-second-ends-span ds o i most p q e r =
+pub second-ends-span : (sh : Shape) (o i : ℕ) → ShapeFits sh → o < sh .controls → i < sh .controls → (e : Edge) → SecondEnds sh o i e
+    → Span (second (sh .controls)) (size (sh .controls)) (second (sh .controls)) e
+second-ends-span sh o i fits p q e r =
     let γ = r .inside in row-span _ _ _ _ _ (omega arith) e (r .at)
 
 -- All edges with at most one turn end inside.
-pub first-span : (th : Thread) (top : Top) (n : ℕ) → n ≤ 4 → TopFits top → ThreadFits n th → (e : Edge) → First th top n e
-    → Span 0 second second e
-first-span th top n few named fits e (inl r) = let s = plains-span th top n few named fits e r in omega arith
-first-span th top n few named fits e (inr (inl r)) =
-    let s = first-ends-span (destsOf top) n (dests-range top .1) few e r in omega arith
-first-span th top n few named fits e (inr (inr r)) =
-    let s = lane-span th (destsOf top) n (dests-range top .1) few fits first e r in omega arith
+pub first-span : (th : Thread) (top : Top) (N : ℕ) → ShapeFits (shapeOf top N) → TopFits top → RulesIn N th → (e : Edge) → First th top N e
+    → Span 0 (second N) (second N) e
+first-span th top N shape named within e (inl r) = let s = plains-span th top N shape named within e r in omega arith
+first-span th top N shape named within e (inr (inl r)) = let s = first-ends-span (shapeOf top N) shape e r in omega arith
+first-span th top N shape named within e (inr (inr r)) =
+    let s = lane-span th (shapeOf top N) shape within (first N) (omega arith) e r in omega arith
 
 -- Edges of either of two sets.
 pub either : {P Q : Edge → Type 0} {low high parts : ℕ} → ((e : Edge) → P e → Span low high parts e)

@@ -30,21 +30,21 @@ module _ {C S : Type 0} (Move : C → ℕ → S → Right → C → Type 0) (Swi
     pub switches : {c c₁ : C} → Ctl c → Switch c c₁ → Ctl c₁
 
 module _ {C S : Type 0} (Move : C → ℕ → S → Right → C → Type 0) (Switch : C → C → Type 0)
-    (Ctl : C → Type 0) (Sym : ℕ → Type 0) (Ask : Top → Type 0) where
+    (Ctl : C → Type 0) (Sym : ℕ → Type 0) (Ask : Top → C → Type 0) where
   -- A destination of the table.
   abbrev pub Dest : End C → Type 0
   Dest d = Ctl (endOf d) × Asks Ask d
 
   -- The entries are closed under each way that a stretch can go on.
   pub record Closed (T : C → ℕ → End C → ℕ) : Type 0 where
-    pub here : (top : Top) (c : C) (γ : ℕ) → Ctl c → Sym γ → Ask top → OnTop top γ → AtMost (T c γ (stay top c)) 0
+    pub here : (top : Top) (c : C) (γ : ℕ) → Ctl c → Sym γ → Ask top c → OnTop top γ → AtMost (T c γ (stay top c)) 0
     pub remove : {c c₁ : C} {γ : ℕ} {s : S} → Ctl c → Sym γ → Move c γ s Remove c₁ → AtMost (T c γ (pop c₁)) 1
     pub swap : {c c₁ : C} {γ : ℕ} {s : S} {a : Symbol} (d : End C) → Ctl c → Sym γ → Dest d
         → Move c γ s (Swap a) c₁ → T c₁ (a .0) d ≤ cap → AtMost (T c γ d) (1 + T c₁ (a .0) d)
     pub both : {c c₁ : C} {γ : ℕ} {s : S} {a b : Symbol} (q : C) (d : End C) → Ctl c → Sym γ → Ctl q → Dest d
         → Move c γ s (Push a b) c₁ → T c₁ (a .0) (pop q) ≤ cap → T q (b .0) d ≤ cap
         → AtMost (T c γ d) (1 + T c₁ (a .0) (pop q) + T q (b .0) d)
-    pub above : {c c₁ : C} {γ : ℕ} {s : S} {a b : Symbol} (top : Top) (q : C) → Ctl c → Sym γ → Ctl q → Ask top
+    pub above : {c c₁ : C} {γ : ℕ} {s : S} {a b : Symbol} (top : Top) (q : C) → Ctl c → Sym γ → Ctl q → Ask top q
         → Move c γ s (Push a b) c₁ → T c₁ (a .0) (stay top q) ≤ cap → AtMost (T c γ (stay top q)) (1 + T c₁ (a .0) (stay top q))
     pub change : {c c₁ : C} (γ : ℕ) (d : End C) → Ctl c → Sym γ → Dest d
         → Switch c c₁ → T c₁ γ d ≤ cap → AtMost (T c γ d) (T c₁ γ d)

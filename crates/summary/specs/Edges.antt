@@ -74,9 +74,9 @@ pub record Row (w to a b count : ℕ) (e : Edge) : Type 0 where
   pub inside : x < count
   pub is : e ≡ record { w = w; to = to + x; a = a; b = b + x }
 
--- A row of edges that a table has cells for: of weight 0 or 1, and at most 192, which are twelve destinations of sixteen lanes.
+-- A row of edges that a table has cells for: of weight 0 or 1, and at most 256, which are sixteen destinations of sixteen lanes.
 abbrev pub RowFits : ℕ → ℕ → ℕ → ℕ → ℕ → List ℕ → Type 0
-RowFits w to a b count table = (w ≤ 1) × (a < length table) × (to + count ≤ length table) × (b + count ≤ length table) × (count ≤ 192)
+RowFits w to a b count table = (w ≤ 1) × (a < length table) × (to + count ≤ length table) × (b + count ≤ length table) × (count ≤ 256)
 
 -- The edges of a family, for each index below a count.
 pub record Below (count : ℕ) (F : ℕ → Edge → Type 0) (e : Edge) : Type 0 where

@@ -25,10 +25,10 @@ abbrev pub endOf : {C : Type 0} → End C → C
 endOf (pop c) = c
 endOf (stay top c) = c
 
--- The tops that a destination asks for are of a kind; where the symbol is gone, none is asked for.
-abbrev pub Asks : {C : Type 0} → (Top → Type 0) → End C → Type 0
+-- The stays that a destination may be are of a kind; where the symbol is gone, nothing is asked.
+abbrev pub Asks : {C : Type 0} → (Top → C → Type 0) → End C → Type 0
 Asks Ask (pop c) = Unit {0}
-Asks Ask (stay top c) = Ask top
+Asks Ask (stay top c) = Ask top c
 
 module _ {C S : Type 0} (Move : C → ℕ → S → Right → C → Type 0) (Switch : C → C → Type 0) where
   -- A run from a control and a stack, its steps, and the control where it stops, under a top that will do. A switch needs no top.

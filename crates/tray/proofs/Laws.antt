@@ -31,8 +31,8 @@ given (b ∷ bytes) = go (parseFront (b ∷ bytes)) refl
     go (result.refused n) e = e
     go (result.accepted (m, rest)) e = e
 
--- A tray is refused by a number from 1 to 5.
-pub tray-refusal : (bytes : List ℕ) {n : ℕ} → trayOf bytes ≡ refused n → (1 ≤ n) × (n ≤ 5)
+-- A tray is refused by a number from 1 to 5 or by 11.
+pub tray-refusal : (bytes : List ℕ) {n : ℕ} → trayOf bytes ≡ refused n → (1 ≤ n) × (n ≤ 11) × (5 < n → n ≡ 11)
 tray-refusal bytes e = front-refusal bytes (rw e at (given bytes))
 
 -- The records of valid models, one after another, are read back one by one, and then none.

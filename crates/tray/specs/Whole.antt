@@ -19,7 +19,7 @@ pub data ReadAs : List ℕ → List Model → Type 0 where
   -- the first model, and the others from the rest
   next : {bytes rest : List ℕ} {m : Model} {ms : List Model} → trayOf bytes ≡ first m rest → ReadAs rest ms → ReadAs bytes (m ∷ ms)
 
--- Models that can be written: each is valid, and has its 64 rule places a thread.
+-- Models that can be written: each is valid, and has its 64 rule places and eight bytes of marks a thread.
 abbrev pub Writable : List Model → Type 0
 Writable [] = Unit {0}
 Writable (m ∷ ms) = (Valid m × Places m) × Writable ms

@@ -84,7 +84,17 @@ fn by_hand() -> Tally {
     t = t.counted(agrees(b"\x00\x08\x00", 2, 0));
     t = t.counted(agrees(b"\x09\x05\x00\x08\x00", 3, 0));
     t = t.counted(agrees(b"\x48\x00\x01\x08\x00\x08\x00", 4, 0));
-    t.counted(agrees(b"\x09\x04\x00\x08\x00", 5, 0))
+    t = t.counted(agrees(b"\x09\x04\x00\x08\x00", 5, 0));
+    t = t.counted(agrees(
+        b"\x48\x80\x04\x01\x00\x00\x00\x00\x00\x00\x00\x01\x00\x00\x08\x00",
+        ACCEPTED,
+        2,
+    ));
+    t.counted(agrees(
+        b"\x48\x80\x04\x02\x00\x00\x00\x00\x00\x00\x00\x01\x00\x00\x08\x00",
+        11,
+        0,
+    ))
 }
 
 // One case of the file after another: a tray with its length, its answer, and the length of the rest in two bytes.

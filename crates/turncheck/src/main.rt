@@ -10,10 +10,10 @@ enum Input {
     Failed,
 }
 
-// 653 bytes of the input decide the answer: the longest record has 652, and reading stops at the first fault (a law of `record`,
+// 669 bytes of the input decide the answer: the longest record has 668, and reading stops at the first fault (a law of `record`,
 // `decided`).
 fn main() {
-    let mut bytes = [0u8; 653];
+    let mut bytes = [0u8; 669];
     match read_all(&mut bytes) {
         Input::Bytes(n) => print_report(&bytes[..n]),
         Input::Failed => {

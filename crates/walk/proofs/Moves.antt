@@ -8,7 +8,7 @@ use lib.Dec.{eqb}
 use lib.ListN.{getD}
 use Rattle.model.specs.declared.Thread.{Thread}
 use Rattle.model.specs.Results.{refused, accepted, need}
-use Rattle.model.specs.Rules.{ruleAt, applies, put}
+use Rattle.model.specs.Rules.{ruleAt, applies, put, heldAt}
 use Rattle.walk.specs.Stack.{topFirst, Moved, moveOf}
 use Rattle.walk.proofs.Stacks.{split-top}
 
@@ -34,7 +34,7 @@ module _ (t : Thread) (r shared : ℕ) where
   module _ (n : ℕ) (l : List ℕ) (m : ℕ) (e : m + 1 ≡ n) (h : r < t .count) (k : ruleAt t r .before .0 ≡ shared) where
     by-top : (b : Bool) → eqb (ruleAt t r .symbol .0) (getD l m 0) ≡ b
         → moveOf t r shared (topFirst n l)
-        ≡ need 10 b (accepted (ruleAt t r .after .0, put (ruleAt t r .right) (topFirst m l)))
+        ≡ need 10 b (accepted (heldAt t r, ruleAt t r .after .0, put (ruleAt t r .right) (topFirst m l)))
     unfolding moveOf applies
     by-top b j = rw (split-top n l m e, lt-ltb r (t .count) h, eq-eqb (ruleAt t r .before .0) shared k, j)
 
@@ -43,6 +43,6 @@ module _ (t : Thread) (r shared : ℕ) where
     other-top j = rw (by-top false (ne-eqb (ruleAt t r .symbol .0) (getD l m 0) j))
 
     -- .. and the rule for this top makes the step.
-    pub moves : {w : List ℕ} → ruleAt t r .symbol .0 ≡ getD l m 0 → w ≡ put (ruleAt t r .right) (topFirst m l)
-        → _≡_ {A = Moved} (accepted (ruleAt t r .after .0, w)) (moveOf t r shared (topFirst n l))
-    moves j p = rw (by-top true (eq-eqb (ruleAt t r .symbol .0) (getD l m 0) j), p)
+    pub moves : {held : Bool} {w : List ℕ} → ruleAt t r .symbol .0 ≡ getD l m 0 → held ≡ heldAt t r → w ≡ put (ruleAt t r .right) (topFirst m l)
+        → _≡_ {A = Moved} (accepted (held, ruleAt t r .after .0, w)) (moveOf t r shared (topFirst n l))
+    moves j f p = rw (by-top true (eq-eqb (ruleAt t r .symbol .0) (getD l m 0) j), f, p)

@@ -1,13 +1,15 @@
 -- Stacks in buffers, and what the walk's functions say in terms of configurations.
+use mathlib.Core.Bool.{Bool, not, _&&_, _||_}
 use mathlib.Core.List.{List, [], _∷_}
 use mathlib.Core.Path.{_≡_}
-use Prim.Native.Nat.{ℕ, zero, suc, _+_, _≤_}
+use Prim.Native.Nat.{ℕ, zero, suc, _+_, _*_, _≤_}
+use lib.Dec.{leb, ltb, eqb}
 use lib.ListN.{length, getD}
 use Rattle.model.specs.declared.Model.{Model}
 use Rattle.model.specs.declared.Thread.{Thread}
-use Rattle.model.specs.Results.{Result, refused, accepted, need}
-use Rattle.model.specs.Rules.{ruleAt, applies, put}
-use Rattle.model.specs.Walk.{Config, Walked, startOf}
+use Rattle.model.specs.Results.{Result, refused, accepted, need, andThen, refuse, firstOf}
+use Rattle.model.specs.Rules.{ruleAt, applies, put, heldAt}
+use Rattle.model.specs.Walk.{Config, Step, Walked, startOf, stepFrom}
 use Rattle.walk.specs.declared.Fired.{Fired}
 use Rattle.walk.specs.declared.Fired.the-variants.{Done, Stuck}
 use Rattle.walk.specs.declared.Stepped.{Stepped}
@@ -22,12 +24,17 @@ topFirst (suc n) l = getD l n 0 ∷ topFirst n l
 -- The configuration that a walk's counters and its two buffers stand for.
 abbrev pub configOf : Walk → List ℕ → List ℕ → Config
 configOf w a b =
-    record { turn = w .turn; shared = w .shared; stacks = record { a = topFirst (w .a) a; b = topFirst (w .b) b } }
+    record { turn = w .turn; held = w .held; shared = w .shared; stacks = record { a = topFirst (w .a) a; b = topFirst (w .b) b } }
 
 -- What the answer of a step, or of several, stands for, with the buffers as it left them.
 abbrev pub walkedOf : Stepped → List ℕ → List ℕ → Walked
 walkedOf (Made w) a b = accepted (configOf w a b)
 walkedOf (Refused n) a b = refused n
+
+-- The steps of a list from a configuration, up to the first that is refused: the walk of them, but it may end after a held step.
+unfoldable pub walkOn : Model → Config → List Step → Walked
+walkOn m c [] = accepted c
+walkOn m c (s ∷ ss) = andThen (stepFrom m c s) (λ d. walkOn m d ss)
 
 -- A walk at its start: the counters and the buffers stand for the start of the model, and each stack holds one symbol.
 pub record Starts (m : Model) (w : Walk) (a b : List ℕ) : Type 0 where
@@ -55,22 +62,29 @@ abbrev pub Grows : Walk → Stepped → List ℕ → List ℕ → List ℕ → L
 Grows w (Made v) a b a′ b′ = GrowsBy 1 w (Made v)
 Grows w (Refused n) a b a′ b′ = (a′ ≡ a) × (b′ ≡ b)
 
--- What one thread's step makes of the shared state and its stack.
+-- The refusal number of a step's turn, by where the walk is: 9 where it is below the last step's or above 2K−1, then 12 where a turn is
+-- left after a held step; 0 for none.
+unfoldable pub turnFault : Model → Walk → ℕ → ℕ
+turnFault m w turn =
+    firstOf
+    (refuse 9 (leb (w .turn) turn && ltb turn (2 * m .k)) ∷ refuse 12 (not (w .held) || eqb (w .turn) turn) ∷ [])
+
+-- What one thread's step makes of the shared state and its stack, and whether its rule is held.
 abbrev pub Moved : Type 0
-Moved = Result (ℕ × List ℕ)
+Moved = Result (Bool × ℕ × List ℕ)
 
 -- A thread's step by rule r: with an empty stack there is none, and the rule must apply (10).
 unfoldable pub moveOf : Thread → ℕ → ℕ → List ℕ → Moved
 moveOf t r shared [] = refused 10
 moveOf t r shared (top ∷ w) =
-    need 10 (applies t r shared top) (accepted (ruleAt t r .after .0, put (ruleAt t r .right) w))
+    need 10 (applies t r shared top) (accepted (heldAt t r, ruleAt t r .after .0, put (ruleAt t r .right) w))
 
 -- What the answer of a thread's step stands for, with the buffer as it left it.
 abbrev pub movedOf : Fired → List ℕ → Moved
-movedOf (Done shared n) l = accepted (shared, topFirst n l)
+movedOf (Done held shared n) l = accepted (held, shared, topFirst n l)
 movedOf Stuck l = refused 10
 
 -- The same of one thread's stack: at most one symbol more, and where it is stuck the buffer is as it was.
 abbrev pub Fires : ℕ → Fired → List ℕ → List ℕ → Type 0
-Fires depth (Done shared n) l l′ = n ≤ depth + 1
+Fires depth (Done held shared n) l l′ = n ≤ depth + 1
 Fires depth Stuck l l′ = l′ ≡ l

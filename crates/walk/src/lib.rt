@@ -5,16 +5,17 @@ ghost use lib.ListN.{length};
 ghost use Rattle.model.specs.Rules.{put};
 ghost use Rattle.model.specs.Schedules.{stepsOf};
 ghost use Rattle.model.specs.Walk.{stepFrom, walk, hasTop};
-ghost use Rattle.walk.specs.Stack.{topFirst, configOf, walkedOf, Counted, Room, Starts, GrowsBy, Grows, moveOf, movedOf, Fires};
+ghost use Rattle.walk.specs.Stack.{topFirst, configOf, walkedOf, walkOn, Counted, Room, Starts, GrowsBy, Grows, turnFault, moveOf, movedOf, Fires};
 use model::Model;
 use model::Right;
 use model::Thread;
 use model::Top;
 
-// Where a walk is: the turn of its last step, the shared state, and how many symbols each stack holds.
-// The stacks themselves are in two buffers, bottom first.
+// Where a walk is: the turn of its last step and whether that step's rule is held, the shared state, and how many symbols each stack
+// holds. The stacks themselves are in two buffers, bottom first.
 pub struct Walk {
     pub turn: u8,
+    pub held: bool,
     pub shared: u8,
     pub a: usize,
     pub b: usize,
@@ -26,9 +27,10 @@ pub enum Stepped {
     Refused(u8),
 }
 
-// What a step makes of the shared state and its thread's stack: the state and how many symbols the stack then holds.
+// What a step makes of the shared state and its thread's stack: whether its rule is held, the state, and how many symbols the stack
+// then holds.
 pub enum Fired {
-    Done(u8, usize),
+    Done(bool, u8, usize),
     Stuck,
 }
 
@@ -44,17 +46,35 @@ pub fn start(m: Model, a: &mut [u8], b: &mut [u8]) -> Walk
     b[0] = m.b.first.0;
     Walk {
         turn: 0,
+        held: false,
         shared: m.start.0,
         a: 1,
         b: 1,
     }
 }
 
-// The steps of a schedule, in order, up to the first that is refused.
+// The steps of a schedule, in order, up to the first that is refused; its last is not held (12).
 pub fn steps(start: Walk, m: Model, schedule: &[u8], a: &mut [u8], b: &mut [u8]) -> Stepped
     requires { ⌜ Counted m ⌝ ∗ ⌜ Room (length (now schedule) / 2) start (now a) (now b) ⌝ }
     ensures by { λ r. ⌜ walkedOf r (now (a .exit)) (now (b .exit)) ≡
         walk m (configOf start (now (a .entry)) (now (b .entry))) (stepsOf (now (schedule .entry))) ⌝ }
+    ensures grows { λ r. ⌜ GrowsBy (length (now (schedule .entry)) / 2) start r ⌝ }
+{
+    let w = match run(start, m, schedule, a, b) {
+        Stepped::Made(v) => v,
+        Stepped::Refused(f) => return Stepped::Refused(f),
+    };
+    if w.held {
+        return Stepped::Refused(12);
+    }
+    Stepped::Made(w)
+}
+
+// The same steps wherever they end, after a held step too. It is the only loop of steps, and `step` has no other caller.
+pub fn run(start: Walk, m: Model, schedule: &[u8], a: &mut [u8], b: &mut [u8]) -> Stepped
+    requires { ⌜ Counted m ⌝ ∗ ⌜ Room (length (now schedule) / 2) start (now a) (now b) ⌝ }
+    ensures by { λ r. ⌜ walkedOf r (now (a .exit)) (now (b .exit)) ≡
+        walkOn m (configOf start (now (a .entry)) (now (b .entry))) (stepsOf (now (schedule .entry))) ⌝ }
     ensures grows { λ r. ⌜ GrowsBy (length (now (schedule .entry)) / 2) start r ⌝ }
 {
     let n = schedule.len() / 2;
@@ -90,24 +110,22 @@ pub fn has_top(top: Top, depth: usize, stack: &[u8]) -> bool
 }
 
 impl Walk {
-    // One step: its turn number first (9), then the rule of that turn's thread (10).
+    // One step: its turn first (9, 12), then the rule of that turn's thread (10).
     fn step(self, m: Model, turn: u8, rule: u8, a: &mut [u8], b: &mut [u8]) -> Stepped
         requires { ⌜ Counted m ⌝ ∗ ⌜ Room 1 self (now a) (now b) ⌝ }
         ensures by { λ r. ⌜ walkedOf r (now (a .exit)) (now (b .exit)) ≡
             stepFrom m (configOf self (now (a .entry)) (now (b .entry))) (record { turn = turn; rule = rule }) ⌝ }
         ensures grows { λ r. ⌜ Grows self r (now (a .entry)) (now (b .entry)) (now (a .exit)) (now (b .exit)) ⌝ }
     {
-        let turns = 2 * (m.k as usize);
-        if turn < self.turn {
-            return Stepped::Refused(9);
-        }
-        if turns <= turn as usize {
-            return Stepped::Refused(9);
+        let fault = self.turn_fault(m, turn);
+        if fault != 0 {
+            return Stepped::Refused(fault);
         }
         if turn % 2 == 0 {
             match fire(m.a, rule, self.shared, self.a, a) {
-                Fired::Done(shared, n) => Stepped::Made(Walk {
+                Fired::Done(held, shared, n) => Stepped::Made(Walk {
                     turn,
+                    held,
                     shared,
                     a: n,
                     b: self.b,
@@ -116,8 +134,9 @@ impl Walk {
             }
         } else {
             match fire(m.b, rule, self.shared, self.b, b) {
-                Fired::Done(shared, n) => Stepped::Made(Walk {
+                Fired::Done(held, shared, n) => Stepped::Made(Walk {
                     turn,
+                    held,
                     shared,
                     a: self.a,
                     b: n,
@@ -125,6 +144,25 @@ impl Walk {
                 Fired::Stuck => Stepped::Refused(10),
             }
         }
+    }
+
+    // Refusal 9 for a turn number below the last step's or above 2K−1, then 12 for a turn left after a held step.
+    fn turn_fault(self, m: Model, turn: u8) -> u8
+        ensures { λ n. ⌜ n ≡ turnFault m self turn ⌝ }
+    {
+        let turns = 2 * (m.k as usize);
+        if turn < self.turn {
+            return 9;
+        }
+        if turns <= turn as usize {
+            return 9;
+        }
+        if self.held {
+            if self.turn != turn {
+                return 12;
+            }
+        }
+        0
     }
 }
 
@@ -151,7 +189,8 @@ fn fire(t: Thread, rule: u8, shared: u8, depth: usize, stack: &mut [u8]) -> Fire
     }
     let right = chosen.right;
     let n = place_right(right, below, stack);
-    Fired::Done(chosen.after.0, n)
+    let marks = t.held;
+    Fired::Done(model::is_held(marks, r), chosen.after.0, n)
 }
 
 // A rule's right side in place of the top that is gone; answers how many symbols the stack then holds.

@@ -36,13 +36,14 @@ earlier (s ∷ ss) h (k, r) = (le-trans h k, r)
 
 module _ {m : Model} where
   -- A run's steps ascend ..
-  ascends : {t g : ℕ} {σ τ : Stacks} {line : List ℕ} {ss : List Step} → Turns m t g σ line ss τ → Ascends t ss
+  ascends : {t g : ℕ} {held : Bool} {σ τ : Stacks} {line : List ℕ} {ss : List Step} → Turns m t held g σ line ss τ → Ascends t ss
   ascends stop = tt
   ascends {ss = ss} (end r) = earlier ss (omega arith) (ascends r)
   ascends {t} (move e p r) = (le-refl t, ascends r)
 
   -- .. and a view's are the thread's own.
-  owned : {i : ThreadId} {top : Top} {t g : ℕ} {w line : List ℕ} {ss : List Step} → View m i top t g w line ss → Owned i ss
+  owned : {i : ThreadId} {top : Top} {t g : ℕ} {held : Bool} {w line : List ℕ} {ss : List Step} → View m i top t held g w line ss
+      → Owned i ss
   owned (stop k) = tt
   owned (skip e v) = owned v
   owned (end e v) = owned v
@@ -83,8 +84,8 @@ by-turn {xs = x ∷ xs} {ys = y ∷ ys} (right r) t a (o, b) (h, k) =
 
 -- Two views of one line to the tops that the model names, merged by turn, are a run to them.
 pub merged-turns : {m : Model} {line : List ℕ} {xs ys : List Step}
-    → View m A (m .a .top) 0 (m .start .0) (m .a .first .0 ∷ []) line xs
-    → View m B (m .b .top) 0 (m .start .0) (m .b .first .0 ∷ []) line ys → EndsUnder m line (merged xs ys)
+    → View m A (m .a .top) 0 false (m .start .0) (m .a .first .0 ∷ []) line xs
+    → View m B (m .b .top) 0 false (m .start .0) (m .b .first .0 ∷ []) line ys → EndsUnder m line (merged xs ys)
 merged-turns {m} v w =
     let r = merged-views (topsOf m) {σ = startStacks m} v w in
     let run = rw (by-turn (r .merged) 0 (owned v) (owned w) (ascends (r .turns))) at (r .turns) in

@@ -11,8 +11,7 @@ use Rattle.model.specs.declared.Right.{Right}
 use Rattle.model.specs.declared.Right.the-variants.{Remove, Swap, Push}
 use Rattle.model.specs.declared.Rule.{Rule}
 use Rattle.model.specs.declared.Thread.{Thread}
-use Rattle.model.specs.Rules.{ruleAt}
-use Rattle.witness.specs.Plan.{rightIn, planRight, ruleFrom, ruleIn, planRule}
+use Rattle.witness.specs.Plan.{rightIn, planRight, ruleFrom, ruleIn, markedRule, planRule}
 use Rattle.witness.proofs.Stored.{stored-below, stored-at}
 
 -- A right side has three bytes ..
@@ -70,7 +69,7 @@ rule-kept vs l at i h =
 -- The first r rules of a thread stand in a plan, whose first eight bytes are the old ones.
 pub record Listed (th : Thread) (r : ℕ) (old new : List ℕ) : Type 0 where
   pub size : length new ≡ length old
-  pub rules : (i : ℕ) → i < r → ruleIn new i ≡ ruleAt th i
+  pub rules : (i : ℕ) → i < r → ruleIn new i ≡ markedRule th i
   pub head : (i : ℕ) → i < 8 → getD new i 0 ≡ getD old i 0
 
 -- At the start no rule stands there.
@@ -79,19 +78,19 @@ listed-start th old = record { size = refl; rules = λ i h. absurd (omega arith)
 
 -- One rule more.
 pub listed-next : {th : Thread} {r : ℕ} {old new : List ℕ} → Listed th r old new → 8 + 6 * r + 6 ≤ length new
-    → Listed th (r + 1) old (sets new (8 + 6 * r) (planRule (ruleAt th r)))
+    → Listed th (r + 1) old (sets new (8 + 6 * r) (planRule (markedRule th r)))
 listed-next {th} {r} {old} {new} p room =
-    let bytes = planRule (ruleAt th r) in
+    let bytes = planRule (markedRule th r) in
     record {
       size = length-sets new (8 + 6 * r) bytes ∙ p .size;
       rules =
-          below-more (λ i. ruleIn (sets new (8 + 6 * r) bytes) i ≡ ruleAt th i) r
+          below-more (λ i. ruleIn (sets new (8 + 6 * r) bytes) i ≡ markedRule th i) r
           (λ i h. rule-kept bytes new (8 + 6 * r) (8 + 6 * i) (omega arith) ∙ p .rules i h)
-          (rule-found new (8 + 6 * r) (ruleAt th r) room);
+          (rule-found new (8 + 6 * r) (markedRule th r) room);
       head = λ i h. stored-below bytes new (8 + 6 * r) (omega arith) ∙ p .head i h;
     }
 
 -- At the end all rules stand there.
 pub listed-all : {th : Thread} {r : ℕ} {old new : List ℕ} → Listed th r old new → th .count ≤ r
-    → ((i : ℕ) → i < th .count → ruleIn new i ≡ ruleAt th i)
+    → ((i : ℕ) → i < th .count → ruleIn new i ≡ markedRule th i)
 listed-all p h i low = p .rules i (omega arith)

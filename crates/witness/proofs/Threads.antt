@@ -20,19 +20,19 @@ use Rattle.costs.specs.Ends.{turnOf, endsOf, firstState, lastState}
 use Rattle.costs.proofs.Along.{ends-inside}
 use Rattle.costs.proofs.Values.{full-count}
 use Rattle.costs.proofs.Pairs.{floor-low, turns-made, idle, pair-cost}
-use Rattle.summary.specs.Control.{Control, TurnEnd, Moves, Switches, entry, Known, any, named, Inside}
-use Rattle.summary.specs.Cells.{staysOf}
+use Rattle.summary.specs.Control.{Control, TurnEnd, Moves, Switches, entry, InTable, Known, any, named, Inside}
+use Rattle.summary.specs.Cells.{freeOf, staysOf}
 use Rattle.summary.specs.Edges.{bestOf}
-use Rattle.summary.specs.Stretch.{pop, stay, Path}
+use Rattle.summary.specs.Stretch.{End, pop, stay, Path}
 use Rattle.summary.proofs.Floors.{unfloored}
-use Rattle.summary.proofs.Joins.{stay-high, stays-low}
 use Rattle.summary.proofs.Leasts.{least-as, least-once}
+use Rattle.summary.proofs.Numbers.{stays-low}
 use Rattle.summary.proofs.Overs.{pops, stays}
 use Rattle.summary.proofs.Relaxing.{better}
 use Rattle.witness.specs.declared.goal.Goal.{Goal}
 use Rattle.witness.specs.Goals.{from, Starts, Ready, Splits, EndsAt, Pairs}
-use Rattle.witness.specs.Plan.{statesIn, endsIn, Setting, Prepared}
-use Rattle.witness.proofs.Firsts.{entry-same, gone}
+use Rattle.witness.specs.Plan.{statesIn, controlsIn, endsIn, Setting, Prepared}
+use Rattle.witness.proofs.Firsts.{numbered-is, stay-dest, starts-in, entry-same, gone-splits}
 use Rattle.witness.proofs.Writers.{stored-as}
 
 -- A run looks at no turn end but the first n.
@@ -46,8 +46,10 @@ path-ends h (Path.change {c = c} s p) =
     Path.change
     (record {
       more = s .more;
+      free = s .free;
       leave = s .leave ∙ ap (λ (x : TurnEnd). x .leave) k;
       enter = s .enter ∙ ap (λ (x : TurnEnd). x .enter) k;
+      fresh = s .fresh;
       passed = s .passed;
     })
     (path-ends h p)
@@ -86,7 +88,7 @@ module _ {t : Thread} {top : Top} {i : ThreadId} {G n : ℕ} {line tab plan : Li
   module _ (g : ℕ) (first : firstState i g line < G) (last : lastState i n line < G) where
     -- The goal of the whole thread.
     abbrev pub whole : Goal
-    whole = record { passed = 0; shared = firstState i g line; symbol = t .first .0; until = n; dest = staysOf top + lastState i n line }
+    whole = record { passed = 0; control = firstState i g line; symbol = t .first .0; until = n; dest = staysOf top + lastState i n line }
 
     -- Where it starts and ends.
     abbrev c : Control
@@ -98,12 +100,25 @@ module _ {t : Thread} {top : Top} {i : ThreadId} {G n : ℕ} {line tab plan : Li
     pub stands : EndsAt setting whole (stay top (control n (lastState i n line)))
     stands =
         record {
-          start = (omega arith, rw (K .states) first);
-          stop = (le-refl n, rw (K .states) last);
+          passed = omega arith;
+          control = omega (arith, first, K .states, K .range .controls .0);
+          stop = (
+            record {
+              passed = le-refl n;
+              shared = omega (arith, last, K .states, K .range .states);
+              number = omega (arith, last, K .states, K .range .controls .0);
+            },
+            record { known = known-top top; free = refl },
+          );
           until = refl;
           dest = refl;
-          asks = known-top top;
         }
+
+    -- It starts where the thread does.
+    same-start : from whole ≡ c
+    same-start =
+        let low : firstState i g line < 4 = omega (arith, first, K .states, K .range .states) in
+        numbered-is c 0 (firstState i g line) refl (omega arith) low
 
     pub ready : Ready tab plan whole
     ready =
@@ -113,46 +128,64 @@ module _ {t : Thread} {top : Top} {i : ThreadId} {G n : ℕ} {line tab plan : Li
           fits =
               record {
                 passed = omega arith;
-                shared = omega (arith, K .range .states, K .states);
+                control = stands .control;
                 symbol = omega (arith, fits .first);
                 until = two;
                 dest = omega (arith, K .range .states, K .states, stays-low top);
               };
         }
 
+    -- The entry of its stretch to a destination is that from there.
+    start-entry : (e : End Control) → entry (controlsIn plan) (endsIn plan) tab (from whole) (t .first .0) e
+        ≡ entry (controlsIn plan) (endsIn plan) tab c (t .first .0) e
+    start-entry e = ap (λ (c : Control). entry (controlsIn plan) (endsIn plan) tab c (t .first .0) e) same-start
+
     -- Each candidate of the least is a way to write the pair ..
-    step : (j s old : ℕ) → j ≤ n → s < statesIn plan → (old ≤ mostSteps → Splits tab plan whole 16 old)
-        → through (endsIn plan) tab c (t .first .0) top d (control j s) old ≤ mostSteps
-        → Splits tab plan whole 16 (through (endsIn plan) tab c (t .first .0) top d (control j s) old)
+    step : (j s old : ℕ) → j ≤ n → s < freeOf (controlsIn plan) → (old ≤ mostSteps → Splits tab plan whole 16 old)
+        → through (controlsIn plan) (endsIn plan) tab c (t .first .0) top d (control j s) old ≤ mostSteps
+        → Splits tab plan whole 16 (through (controlsIn plan) (endsIn plan) tab c (t .first .0) top d (control j s) old)
     step j s old b l r =
-        which (entry (endsIn plan) tab c (t .first .0) (pop (control j s))) (entry (endsIn plan) tab (control j s) 16 (stay top d)) refl refl
+        which (entry (controlsIn plan) (endsIn plan) tab c (t .first .0) (pop (control j s)))
+        (entry (controlsIn plan) (endsIn plan) tab (control j s) 16 (stay top d)) refl refl
       where
-        which : (x y : ℕ) → entry (endsIn plan) tab c (t .first .0) (pop (control j s)) ≡ x
-            → entry (endsIn plan) tab (control j s) 16 (stay top d) ≡ y → bestOf 0 x y old ≤ mostSteps
+        which : (x y : ℕ) → entry (controlsIn plan) (endsIn plan) tab c (t .first .0) (pop (control j s)) ≡ x
+            → entry (controlsIn plan) (endsIn plan) tab (control j s) 16 (stay top d) ≡ y → bestOf 0 x y old ≤ mostSteps
             → Splits tab plan whole 16 (bestOf 0 x y old)
         which x y p q h =
             ⊎-elim (λ e. rw e (r (rw e at h)))
-            (λ e. gone setting {d = stay top d} {q = control j s} 16 (bestOf 0 x y old) stands (b, l) (omega (arith, p, q, e .2)))
+            (λ e. gone-splits setting {d = stay top d} {q = control j s} 16 (bestOf 0 x y old) stands
+            (record { passed = b; shared = omega arith; number = omega arith }) (omega (arith, start-entry (pop (control j s)), p, q, e .2)))
             (better 0 x y old .which)
 
     -- .. so there is one in just as many steps as the line's least.
     pub splits : {count : ℕ} → count ≤ mostSteps → LeastAlong t top i n g line count → Splits tab plan whole 16 count
     splits {count} h least =
-        let cost = pair-cost (setting .fits) inside (setting .summed) (turnOf i) c (t .first .0) top d (known-top top) ranged (stands .start) (fits .first) (stands .stop) in
-        let same : pairCost (endsIn plan) tab (statesIn plan) n c (t .first .0) top d ≡ count =
-        least-once (least-as (λ ss p. path-ends (λ j l. sym (K .ends j l)) p) (λ ss p. path-ends (K .ends) p) least) cost (omega arith) in
+        let start : InTable (controlsIn plan) n c = subst (InTable (controlsIn plan) n) same-start (starts-in setting stands) in
+        let N = K .planned .controls in
+        let cost = pair-cost (setting .four) (setting .fits) inside (setting .summed) (turnOf i) c (t .first .0) top d (stands .stop .1) ranged
+        (rw N at start) (fits .first) (rw N at (stands .stop .0)) in
+        let same : pairCost (endsIn plan) tab (controlsIn plan) n c (t .first .0) top d ≡ count =
+        rw N (least-once (least-as (λ ss p. path-ends (λ j l. sym (K .ends j l)) p) (λ ss p. path-ends (K .ends) p) least) cost (omega arith)) in
+        let o = stay-dest top d (stands .stop) in
         subst (λ v. Splits tab plan whole 16 v) same
-        (turns-made (endsIn plan) tab c (t .first .0) top d (statesIn plan) n (λ (v : ℕ). v ≤ mostSteps → Splits tab plan whole 16 v) step
-        (λ l. Splits.above (stay-high top d) (entry-same setting stands)) (suc n) (le-refl (suc n)) (omega arith))
+        (turns-made (controlsIn plan) (endsIn plan) tab c (t .first .0) top d n (λ (v : ℕ). v ≤ mostSteps → Splits tab plan whole 16 v) step
+        (λ l. Splits.above (o .0, o .1, entry-same setting stands ∙ start-entry (stay top d))) (suc n) (le-refl (suc n)) (omega arith))
+
+    -- A run by the plan's turn ends from the goal's control is one along the line.
+    along : {us : List Step} → Path (Moves t (turnOf i)) (Switches (endsIn plan) n) top (from whole) (t .first .0 ∷ []) us d
+        → RunAlong t top i n g line us
+    along {us} p =
+        path-ends (K .ends)
+        (subst (λ (u : Control). Path (Moves t (turnOf i)) (Switches (endsIn plan) n) top u (t .first .0 ∷ []) us d) same-start p)
 
     -- What is written for the pair is a run of the thread along the line.
     run : {us : List Step} → Pairs setting (from whole) (t .first .0) 16 (stay top (control n (lastState i n line))) us
         → RunAlong t top i n g line us
-    run (Pairs.above p) = path-ends (K .ends) (rw append-nil at (stays _ _ top {w = []} (p [])))
+    run (Pairs.above p) = along (rw append-nil at (stays _ _ top {w = []} (p [])))
     run (Pairs.both xs ys p q) =
-        path-ends (K .ends)
-        (rw append-nil at (unfloored _ _ top 16 (idle (setting .fits) inside (setting .summed) (turnOf i)) (floor-low top ranged) (pops _ _ top (p (ys ++ [])) (stays _ _ top (q [])))
-        (t .first .0 ∷ []) refl))
+        along
+        (rw append-nil at (unfloored _ _ top 16 (idle (setting .four) (setting .fits) inside (setting .summed) (turnOf i)) (floor-low top ranged)
+        (pops _ _ top (p (ys ++ [])) (stays _ _ top (q []))) (t .first .0 ∷ []) refl))
 
     pub written : {count : ℕ} {old new : List ℕ}
         → Stored (Pairs setting (from whole) (t .first .0) 16 (stay top (control n (lastState i n line)))) count 0 old new
@@ -162,7 +195,7 @@ module _ {t : Thread} {top : Top} {i : ThreadId} {G n : ℕ} {line tab plan : Li
 -- The goal of a whole thread, from the parts of its line.
 pub starts : (f : Top) (i : ThreadId) (n g G v top : ℕ) {s turn e stays : ℕ} → stays ≡ staysOf f → s ≡ firstState i g (digits G (2 * n + 2) v) → s < G
     → turn ≡ turnOf i n → e ≡ getD (digits G (2 * n + 2) v) turn 0 → e < G
-    → Starts f i n g (digits G (2 * suc n) v) top G (record { passed = 0; shared = s; symbol = top; until = n; dest = stays + e })
+    → Starts f i n g (digits G (2 * suc n) v) top G (record { passed = 0; control = s; symbol = top; until = n; dest = stays + e })
 starts f i n g G v top {s} {turn} {e} h a l r b k =
     let p : s ≡ firstState i g (digits G (2 * suc n) v) = rw (full-count n) at a in
     let q : e ≡ lastState i n (digits G (2 * suc n) v) = rw (r, full-count n) at b in

@@ -9,21 +9,23 @@ use lib.ListN.{length, getD, set, length-append}
 use Rattle.model.specs.declared.Right.the-variants.{Remove, Swap, Push}
 use Rattle.model.specs.declared.Rule.{Rule}
 use Rattle.model.specs.declared.Symbol.{Symbol}
+use Rattle.model.specs.Rules.{ruleAt, heldAt}
 use Rattle.model.specs.Schedules.{mostSteps, bytesOf, Stored}
 use Rattle.model.specs.declared.ThreadId.{ThreadId}
 use Rattle.model.specs.declared.ThreadId.the-variants.{A, B}
 use Rattle.model.specs.Walk.{Step}
 use Rattle.model.proofs.Inside.{applies-iff}
 use Rattle.model.proofs.Stores.{sets-append, length-bytes, bytes-append}
-use Rattle.costs.specs.Cost.{control}
 use Rattle.costs.specs.Ends.{turnOf}
-use Rattle.summary.specs.Control.{Control, Moves, Switches, dest}
+use Rattle.summary.specs.Control.{Control, numbered, Moves, Switches}
 use Rattle.summary.specs.Stretch.{End, pop, stay, Stretch}
-use Rattle.summary.proofs.Joins.{stay-high}
+use Rattle.summary.proofs.Numbers.{number-at}
 use Rattle.witness.specs.declared.goal.Goal.{Goal}
 use Rattle.witness.specs.Goals.{from, entryOf, movedTo, enteredAt, goneAt, restAt, Sums, Splits, Tight, EndsAt, Stretches, Pairs}
 use Rattle.witness.specs.Plan.{rulesIn, turnIn, endsIn, ruleIn, Setting}
-use Rattle.witness.proofs.Firsts.{in-time, control-is, entry-same, exact, moved-stands, entered-stands, First, step, turn, first}
+use Rattle.witness.proofs.Firsts.{in-time, numbered-is, numbered-in, stay-dest, pop-dest, controls-low, starts-in, entry-same, exact, after-low}
+use Rattle.witness.proofs.Firsts.{moved-stands, entered-stands}
+use Rattle.witness.proofs.Firsts.{First, step, turn, first}
 
 -- The numbers of a thread's turns, from its first.
 turn-at : (i : ThreadId) (j f : ℕ) → f ≡ turnOf i 0 → 2 * j + f ≡ turnOf i j
@@ -73,15 +75,20 @@ module _ {tab plan : List ℕ} (w : Setting tab plan) where
   -- A tight rule of the plan is a move of the thread.
   move-of : (g : Goal) (count r : ℕ) → r < rulesIn plan → Tight tab plan g count (ruleIn plan r)
       → Moves (w .thread) (turnOf (w .id)) (from g) (g .symbol) (record { turn = turnIn plan (g .passed); rule = r })
-      (ruleIn plan r .right) (control (g .passed) (ruleIn plan r .after .0))
+      (ruleIn plan r .right) (numbered (g .passed) (ruleIn plan r .after .0))
   move-of g count r h t =
       let l = rw (w .planned .count) at h in
       let e = w .planned .rules r l in
+      let to : Control = record { passed = g .passed; held = heldAt (w .thread) r; shared = ruleAt (w .thread) r .after .0 } in
+      let same : numbered (g .passed) (ruleIn plan r .after .0) ≡ to =
+      numbered-is to (g .passed) (ruleIn plan r .after .0) refl (ap (λ (x : Rule). x .after .0) e)
+      (omega (arith, w .fits .rules r l .next, w .four)) in
       record {
-        rule = applies-iff (w .thread) r (g .shared) (g .symbol) .1
-            (record { listed = l; state = rw (← e) (t .0); symbol = rw (← e) (t .1) });
+        rule = applies-iff (w .thread) r (g .control % 4) (g .symbol) .1
+            (record { listed = l; state = rw e at (t .0); symbol = rw e at (t .1) });
         right = ap (λ (x : Rule). x .right) (sym e);
-        shared = ap (λ (x : Rule). x .after .0) e;
+        shared = ap (λ (c : Control). c .shared) same;
+        held = ap (λ (c : Control). c .held) same;
         passed = refl;
         turn = turn-at (w .id) (g .passed) (getD plan 1 0) (w .planned .turn);
       }
@@ -90,7 +97,7 @@ module _ {tab plan : List ℕ} (w : Setting tab plan) where
   pub stopped : {g : Goal} {d : End Control} {count : ℕ} (at : ℕ) (old : List ℕ) → EndsAt w g d → g .symbol ≤ 16
       → entryOf tab plan g ≡ count → count ≡ 0 → Stored (Stretches w (from g) (g .symbol) d) count at old old
   stopped {g} {d} {count} at old s q e z =
-      let u = exact w (from g) (g .symbol) d (s .start) q (s .stop, s .asks) .some (omega (arith, entry-same w s)) in
+      let u = exact w (from g) (g .symbol) d (starts-in w s) q (s .stop) .some (omega (arith, entry-same w s)) in
       go (u .0) (u .1) (omega (arith, u .2, entry-same w s))
     where
       go : (us : List Step) → Stretches w (from g) (g .symbol) d us → length us ≡ 0
@@ -113,7 +120,7 @@ module _ {tab plan : List ℕ} (w : Setting tab plan) where
           let i : g .passed + 1 ≤ g .until = in-time tab plan (enteredAt g (endsIn plan (g .passed) .enter)) (omega arith) in
           let n = next (omega arith) in
           let r = rw (n .0) at (n .1) in
-          stored-as (λ us p rest. Stretch.change k (p rest)) (r (entered-stands w k s) f)
+          stored-as (λ us p rest. Stretch.change k (p rest)) (r (entered-stands w (k .more) s) f)
 
   module _ {g : Goal} {d : End Control} {count at : ℕ} {old new : List ℕ} (s : EndsAt w g d) (low : 0 < count) (r : ℕ)
       (l : r < rulesIn plan) (t : Tight tab plan g count (ruleIn plan r)) where
@@ -133,7 +140,9 @@ module _ {tab plan : List ℕ} (w : Setting tab plan) where
         go (pop c) s =
             let b = rw x at (t .2) in
             let m = rw x at (move-of g count r l t) in
-            let same : control (g .passed) (ruleIn plan r .after .0) ≡ c = control-is c (g .passed) (ruleIn plan r .after .0) (sym (b .1) ∙ sym (s .until)) (sym (b .2) ∙ sym (s .dest)) in
+            let low = s .stop .0 .shared in
+            let same : numbered (g .passed) (ruleIn plan r .after .0) ≡ c =
+            numbered-is c (g .passed) (ruleIn plan r .after .0) (sym (b .1) ∙ sym (s .until)) (omega (arith, b .2, s .dest, low)) low in
             record {
               steps = record { turn = turnIn plan (g .passed); rule = r } ∷ [];
               run = gone c same m;
@@ -142,7 +151,8 @@ module _ {tab plan : List ℕ} (w : Setting tab plan) where
             }
         go (stay top c) s =
             let b = rw x at (t .2) in
-            absurd (omega (arith, s .dest, stay-high top c, moved-stands w (move-of g count r l t) s 0 .start .1, w .four))
+            let o = stay-dest top c (s .stop) in
+            absurd (omega (arith, b .2, s .dest, o .0, o .1))
 
     -- Another symbol stands in its place.
     pub swapped : (a : Symbol) → ruleIn plan r .right ≡ Swap a
@@ -154,7 +164,7 @@ module _ {tab plan : List ℕ} (w : Setting tab plan) where
     swapped a x next =
         let m = rw x at (move-of g count r l t) in
         first-stored (record { turn = turnIn plan (g .passed); rule = r }) (λ us p rest. Stretch.swap m (p rest)) low
-        (next (moved-stands w m s (a .0)) (rw x at (t .2)))
+        (next (moved-stands w (ruleIn plan r .after .0) (a .0) (after-low w r l) s) (rw x at (t .2)))
 
     -- Two symbols stand in its place.
     pub pushed : (a b : Symbol) → ruleIn plan r .right ≡ Push a b
@@ -166,7 +176,7 @@ module _ {tab plan : List ℕ} (w : Setting tab plan) where
     pushed a b x next =
         let m = rw x at (move-of g count r l t) in
         first-stored (record { turn = turnIn plan (g .passed); rule = r }) (λ us p rest. both-of m p rest) low
-        (next (moved-stands w m s (a .0)) (rw x at (t .2)))
+        (next (moved-stands w (ruleIn plan r .after .0) (a .0) (after-low w r l) s) (rw x at (t .2)))
       where
         both-of : {c c₁ : Control} {γ : ℕ} {s : Step} {us : List Step} {d : End Control}
             → Moves (w .thread) (turnOf (w .id)) c γ s (Push a b) c₁ → Pairs w c₁ (a .0) (b .0) d us → (rest : List Step)
@@ -175,22 +185,28 @@ module _ {tab plan : List ℕ} (w : Setting tab plan) where
         both-of m (Pairs.both xs ys p q) rest = rw append-assoc (Stretch.both m (p (ys ++ rest)) (q rest))
 
   -- A pair whose second symbol is not touched.
-  pub kept : {g : Goal} {d : End Control} {below count at : ℕ} {old new : List ℕ} → EndsAt w g d → 4 ≤ g .dest
+  pub kept : {g : Goal} {d : End Control} {below count at : ℕ} {old new : List ℕ} → EndsAt w g d → 4 ≤ g .dest → g .dest < 12
       → Stored (Stretches w (from g) (g .symbol) d) count at old new
       → Stored (Pairs w (from g) (g .symbol) below d) count at old new
-  kept {d = pop c} s h r = absurd (omega (arith, s .dest, s .stop .1, w .four))
-  kept {d = stay top c} s h r = stored-as (λ us p. Pairs.above p) r
+  kept {d = pop c} s h l r = absurd (pop-dest c (s .stop .0 .shared) (omega (arith, s .dest)) (omega (arith, s .dest)))
+  kept {d = stay top c} s h l r = stored-as (λ us p. Pairs.above p) r
 
   -- A pair whose first symbol is gone at control y.
   pub parted : {g : Goal} {d : End Control} {below count at x : ℕ} {old mid new : List ℕ} (y : ℕ) → EndsAt w g d → count ≤ mostSteps
       → x ≡ entryOf tab plan (goneAt g y) → Sums tab plan g below count y
-      → (EndsAt w (goneAt g y) (pop (control (y / 4) (y % 4)))
-      → Stored (Stretches w (from g) (g .symbol) (pop (control (y / 4) (y % 4)))) x at old mid)
+      → (EndsAt w (goneAt g y) (pop (numbered (y / 8) (y % 8)))
+      → Stored (Stretches w (from g) (g .symbol) (pop (numbered (y / 8) (y % 8)))) x at old mid)
       → (EndsAt w (restAt g below y) d → entryOf tab plan (restAt g below y) ≡ count - x
-      → Stored (Stretches w (control (y / 4) (y % 4)) below d) (count - x) (at + 2 * x) mid new)
+      → Stored (Stretches w (numbered (y / 8) (y % 8)) below d) (count - x) (at + 2 * x) mid new)
       → Stored (Pairs w (from g) (g .symbol) below d) count at old new
   parted {g} {d} {below} {count} {at} {x} y s high e t one other =
-      let i : y / 4 ≤ w .n = omega (arith, in-time tab plan (restAt g below y) (omega (arith, t .1)), s .stop .0, s .until) in
+      let i : y / 8 ≤ w .n = omega (arith, in-time tab plan (restAt g below y) (omega (arith, t .1)), s .stop .0 .passed, s .until) in
       both-stored (λ xs ys p q. Pairs.both xs ys p q) (omega (arith, t .1))
-      (one (record { start = s .start; stop = (i, t .0); until = refl; dest = refl; asks = tt }))
-      (other (record { start = (i, t .0); stop = s .stop; until = s .until; dest = s .dest; asks = s .asks }) (omega (arith, t .1)))
+      (one (record {
+        passed = s .passed;
+        control = s .control;
+        stop = (numbered-in (controls-low w .1) i (t .0), tt);
+        until = refl;
+        dest = number-at (y / 8) (y % 8) (omega arith) .1;
+      }))
+      (other (record { passed = i; control = t .0; stop = s .stop; until = s .until; dest = s .dest }) (omega (arith, t .1)))

@@ -1,6 +1,6 @@
 -- A plan: what the writers need of a thread and of its line, as bytes. They may nest a thousand levels deep and more, and a thread
 -- by value at each level would not fit the stack.
-use mathlib.Core.Bool.{cond}
+use mathlib.Core.Bool.{Bool, cond}
 use mathlib.Core.List.{List, [], _∷_}
 use mathlib.Core.Path.{_≡_}
 use Prim.Native.Nat.{ℕ, _+_, _*_, _≤_, _<_}
@@ -11,12 +11,13 @@ use Rattle.model.specs.declared.Right.the-variants.{Remove, Swap, Push}
 use Rattle.model.specs.declared.Rule.{Rule}
 use Rattle.model.specs.declared.Thread.{Thread}
 use Rattle.model.specs.declared.Top.{Top}
-use Rattle.model.specs.Fits.{RuleFits, ThreadFits}
-use Rattle.model.specs.Rules.{ruleAt}
+use Rattle.model.specs.Fits.{ThreadFits}
+use Rattle.model.specs.Rules.{ruleAt, heldAt}
 use Rattle.model.specs.declared.ThreadId.{ThreadId}
 use Rattle.costs.specs.Ends.{turnOf, endsOf}
-use Rattle.summary.specs.Cells.{size}
+use Rattle.summary.specs.Cells.{numberOf, size, controlsOf}
 use Rattle.summary.specs.Control.{TurnEnd, Inside, Summed}
+use Rattle.summary.specs.Kinds.{RuleIn}
 
 -- How many bytes a plan has: eight, and six for each of 64 rules.
 abbrev pub planSize : ℕ
@@ -29,6 +30,10 @@ statesIn plan = getD plan 0 0
 -- The number of the thread's rules: byte 6.
 abbrev pub rulesIn : List ℕ → ℕ
 rulesIn plan = getD plan 6 0
+
+-- The number of controls in the thread's table: byte 7.
+abbrev pub controlsIn : List ℕ → ℕ
+controlsIn plan = getD plan 7 0
 
 -- The number of the thread's own turn j; byte 1 is that of its first.
 abbrev pub turnIn : List ℕ → ℕ → ℕ
@@ -58,6 +63,20 @@ planRight Remove = 0 ∷ 0 ∷ 0 ∷ []
 planRight (Swap a) = 1 ∷ a .0 ∷ 0 ∷ []
 planRight (Push a b) = 2 ∷ a .0 ∷ b .0 ∷ []
 
+-- A rule as a plan has it: in place of the state that it leads to stands the number of the control.
+abbrev pub markedBy : Rule → Bool → Rule
+markedBy r held =
+    record {
+      before = r .before;
+      symbol = r .symbol;
+      after = record { 0 = numberOf held (r .after .0) };
+      right = r .right;
+    }
+
+-- Rule r of a thread as a plan has it.
+abbrev pub markedRule : Thread → ℕ → Rule
+markedRule t r = markedBy (ruleAt t r) (heldAt t r)
+
 -- The six bytes of a rule.
 abbrev pub planRule : Rule → List ℕ
 planRule r = r .before .0 ∷ r .symbol .0 ∷ r .after .0 ∷ planRight (r .right)
@@ -66,9 +85,10 @@ planRule r = r .before .0 ∷ r .symbol .0 ∷ r .after .0 ∷ planRight (r .rig
 abbrev pub ruleIn : List ℕ → ℕ → Rule
 ruleIn plan r = ruleFrom plan (8 + 6 * r)
 
--- The first seven bytes of a plan: G, the thread's first turn, its first two turn ends along a line, and its rule count.
-abbrev pub planHead : ThreadId → ℕ → List ℕ → ℕ → List ℕ
-planHead id g line count =
+-- The first eight bytes of a plan: G, the thread's first turn, its first two turn ends along a line, its rule count, and the number of
+-- controls.
+abbrev pub planHead : ThreadId → ℕ → List ℕ → ℕ → ℕ → List ℕ
+planHead id g line count controls =
     g
     ∷ turnOf id 0
     ∷ endsOf id line 0 .leave
@@ -76,22 +96,25 @@ planHead id g line count =
     ∷ endsOf id line 1 .leave
     ∷ endsOf id line 1 .enter
     ∷ count
+    ∷ controls
     ∷ []
 
 -- The numbers of a plan are in range.
 pub record InRange (plan : List ℕ) : Type 0 where
   pub size : length plan ≡ planSize
   pub states : statesIn plan ≤ 4
+  pub controls : (statesIn plan ≤ controlsIn plan) × (controlsIn plan ≤ 8)
   pub turn : getD plan 1 0 ≤ 1
-  pub ends : (j : ℕ) → j < 2 → (endsIn plan j .leave < 4) × (endsIn plan j .enter < 4)
+  pub ends : (j : ℕ) → j < 2 → (endsIn plan j .leave < statesIn plan) × (endsIn plan j .enter < statesIn plan)
   pub count : rulesIn plan ≤ 64
-  pub rules : (r : ℕ) → r < rulesIn plan → RuleFits 4 (ruleIn plan r)
+  pub rules : (r : ℕ) → r < rulesIn plan → RuleIn (controlsIn plan) (ruleIn plan r .after .0) (ruleIn plan r)
 
--- A plan of a thread: its turns and its rules.
+-- A plan of a thread: its turns, its controls and its rules.
 pub record Planned (t : Thread) (id : ThreadId) (plan : List ℕ) : Type 0 where
   pub turn : getD plan 1 0 ≡ turnOf id 0
   pub count : rulesIn plan ≡ t .count
-  pub rules : (r : ℕ) → r < t .count → ruleIn plan r ≡ ruleAt t r
+  pub controls : controlsIn plan ≡ controlsOf t (statesIn plan)
+  pub rules : (r : ℕ) → r < t .count → ruleIn plan r ≡ markedRule t r
 
 -- The setting of the writers: a thread in range, a top, n turn ends of a line, and the plan and the solved table for them.
 pub record Setting (table plan : List ℕ) : Type 0 where
@@ -108,7 +131,7 @@ pub record Setting (table plan : List ℕ) : Type 0 where
 
 -- The plan of a thread along a full line with n turn ends, and the table that is solved for them and for a top.
 pub record Prepared (t : Thread) (top : Top) (id : ThreadId) (g n : ℕ) (line table plan : List ℕ) : Type 0 where
-  pub size : length table ≡ size
+  pub size : size (controlsIn plan) ≤ length table
   pub range : InRange plan
   pub planned : Planned t id plan
   pub states : statesIn plan ≡ g

@@ -1,26 +1,27 @@
 // What the writers are asked for: a stretch (summary) from a control with a symbol on top to a destination.
+use summary::cells::gone_at;
 ghost use mathlib.Core.Path.{_≡_};
 ghost use Prim.Native.Nat.{_≤_};
 ghost use Rattle.witness.specs.Goals.{movedTo, enteredAt, goneAt, restAt};
 
-// From `passed` turn ends of the thread and state `shared`, with `symbol` on top, to `until` turn ends and a destination:
-// 0 to 3 is gone at a state, 4 to 7 still there, 8 to 11 still there under the named top.
+// From `passed` turn ends of the thread and control number `control`, with `symbol` on top, to `until` turn ends and a destination:
+// 0 to 3 is gone at a state, 4 to 7 still there, 8 to 11 still there under the named top, 12 to 15 gone at a state after a held step.
 pub struct Goal {
     pub passed: usize,
-    pub shared: usize,
+    pub control: usize,
     pub symbol: usize,
     pub until: usize,
     pub dest: usize,
 }
 
 impl Goal {
-    // After a step to state h with symbol a on top.
+    // After a step to control number h with symbol a on top.
     pub fn moved(self, h: usize, a: usize) -> Goal
         ensures { λ r. ⌜ r ≡ movedTo self h a ⌝ }
     {
         Goal {
             passed: self.passed,
-            shared: h,
+            control: h,
             symbol: a,
             until: self.until,
             dest: self.dest,
@@ -34,7 +35,7 @@ impl Goal {
     {
         Goal {
             passed: self.passed + 1,
-            shared: h,
+            control: h,
             symbol: self.symbol,
             until: self.until,
             dest: self.dest,
@@ -47,10 +48,10 @@ impl Goal {
     {
         Goal {
             passed: self.passed,
-            shared: self.shared,
+            control: self.control,
             symbol: self.symbol,
-            until: y / 4,
-            dest: y % 4,
+            until: y / 8,
+            dest: gone_at(y % 8),
         }
     }
 
@@ -59,8 +60,8 @@ impl Goal {
         ensures { λ r. ⌜ r ≡ restAt self below y ⌝ }
     {
         Goal {
-            passed: y / 4,
-            shared: y % 4,
+            passed: y / 8,
+            control: y % 8,
             symbol: below,
             until: self.until,
             dest: self.dest,

@@ -8,6 +8,8 @@ use model::Shared;
 use model::Symbol;
 use model::Thread;
 use model::ThreadId;
+use model::is_held;
+use summary::controls_of;
 ghost use mathlib.Core.List.{[], _∷_};
 ghost use mathlib.Core.Path.{_≡_};
 ghost use Prim.Native.Nat.{ℕ, suc, _+_, _*_, _^_, _≤_, _<_};
@@ -15,9 +17,8 @@ ghost use lib.ListN.{length, getD};
 ghost use lib.Seq.{sets};
 ghost use Rattle.model.specs.Fits.{ThreadFits};
 ghost use Rattle.model.specs.Lines.{digits};
-ghost use Rattle.model.specs.Rules.{ruleAt};
 ghost use Rattle.costs.specs.Ends.{endsOf};
-ghost use Rattle.witness.specs.Plan.{planSize, statesIn, endsIn, rightIn, ruleIn, planRule, planHead, InRange, Planned};
+ghost use Rattle.witness.specs.Plan.{planSize, statesIn, endsIn, rightIn, ruleIn, markedBy, markedRule, planRule, planHead, InRange, Planned};
 
 // How many bytes a plan has: eight, and six for each of 64 rules.
 pub const PLAN_SIZE: usize = 392;
@@ -77,17 +78,26 @@ pub fn make(plan: &mut [u8], th: Thread, g: usize, n: usize, id: ThreadId, v: us
         ((j : ℕ) → j < n → endsIn (now (plan .exit)) j ≡ endsOf id (digits g (2 * suc n) v) j)
         ⌝ }
 {
-    put_head(plan, th.count, g, n, id, v);
+    let controls = controls_of(th, g);
+    put_head(plan, th.count, controls, g, n, id, v);
     put_rules(plan, th);
 }
 
-// The first seven bytes of a plan.
-fn put_head(plan: &mut [u8], count: usize, g: usize, n: usize, id: ThreadId, v: usize)
+// The first eight bytes of a plan.
+fn put_head(
+    plan: &mut [u8],
+    count: usize,
+    controls: usize,
+    g: usize,
+    n: usize,
+    id: ThreadId,
+    v: usize,
+)
     requires { ⌜
-        (7 ≤ length (now plan)) × (count ≤ 64) × (1 ≤ g) × (g ≤ 4) × (n ≤ 2) × (v < g ^ (2 * suc n))
+        (8 ≤ length (now plan)) × (count ≤ 64) × (controls ≤ 8) × (1 ≤ g) × (g ≤ 4) × (n ≤ 2) × (v < g ^ (2 * suc n))
         ⌝ }
     ensures { λ _. ⌜
-        now (plan .exit) ≡ sets (now (plan .entry)) 0 (planHead id g (digits g (2 * suc n) v) count)
+        now (plan .exit) ≡ sets (now (plan .entry)) 0 (planHead id g (digits g (2 * suc n) v) count controls)
         ⌝ }
 {
     let a = turn_of(id, 0);
@@ -101,6 +111,7 @@ fn put_head(plan: &mut [u8], count: usize, g: usize, n: usize, id: ThreadId, v: 
         state_byte(g, n, v, b + 1),
     );
     plan[6] = count as u8;
+    plan[7] = controls as u8;
 }
 
 // State j of the line in a byte, and 0 beyond its end.
@@ -113,16 +124,33 @@ fn state_byte(g: usize, n: usize, v: usize, j: usize) -> u8
 
 // The rules of a thread into a plan, whose first bytes stay.
 fn put_rules(plan: &mut [u8], th: Thread)
-    requires { ⌜ (length (now plan) ≡ planSize) × (th .count ≤ 64) ⌝ }
-    ensures rules { λ _. ⌜ ((r : ℕ) → r < th .count → ruleIn (now (plan .exit)) r ≡ ruleAt th r) ⌝ }
+    requires { ⌜ (length (now plan) ≡ planSize) × ThreadFits 4 th ⌝ }
+    ensures rules { λ _. ⌜ ((r : ℕ) → r < th .count → ruleIn (now (plan .exit)) r ≡ markedRule th r) ⌝ }
     ensures head { λ _. ⌜ ((i : ℕ) → i < 8 → getD (now (plan .exit)) i 0 ≡ getD (now (plan .entry)) i 0) ⌝ }
 {
     let count = th.count;
+    let marks = th.held;
     let mut r = 0;
     while r < count {
         let rule = th.rules[r];
-        put_rule(plan, 8 + 6 * r, rule);
+        let held = is_held(marks, r);
+        put_rule(plan, 8 + 6 * r, marked_rule(rule, held));
         r += 1;
+    }
+}
+
+// A rule as a plan has it: after a held step the control is four above the state.
+fn marked_rule(rule: Rule, held: bool) -> Rule
+    requires { ⌜ rule .after .0 < 4 ⌝ }
+    ensures { λ x. ⌜ x ≡ markedBy rule held ⌝ }
+{
+    let above = if held { 4 } else { 0 };
+    let right = rule.right;
+    Rule {
+        before: Shared(rule.before.0),
+        symbol: Symbol(rule.symbol.0),
+        after: Shared(above + rule.after.0),
+        right,
     }
 }
 

@@ -12,8 +12,10 @@ use costs::parts::turn_of;
 use model::Thread;
 use model::ThreadId;
 use model::Top;
+use model::all_zero;
 use summary::cells::SIZE;
-use summary::ends::stays_of;
+use summary::cells::SMALL;
+use summary::stays_of;
 ghost use mathlib.Core.Path.{_≡_};
 ghost use Prim.Native.Nat.{suc, _*_, _^_, _≤_, _<_};
 ghost use lib.ListN.{length};
@@ -21,11 +23,12 @@ ghost use Rattle.model.specs.Fits.{TopFits, ThreadFits};
 ghost use Rattle.model.specs.Lines.{digits};
 ghost use Rattle.model.specs.Schedules.{mostSteps, Stored};
 ghost use Rattle.costs.specs.Cost.{RunAlong, LeastAlong};
-ghost use Rattle.summary.specs.Cells.{size};
+ghost use Rattle.summary.specs.Cells.{controlsOf, size};
 ghost use Rattle.witness.specs.Goals.{Starts};
 ghost use Rattle.witness.specs.Plan.{planSize, Prepared};
 
-// Writes a thread's steps along the full line whose value is v, with n turn ends, to a top: `count`, the least there are.
+// Writes a thread's steps along the full line whose value is v, with n turn ends, to a top: `count`, the least there are. Where no rule
+// is held the smaller table will do.
 pub fn steps(
     th: Thread,
     top: Top,
@@ -47,11 +50,43 @@ pub fn steps(
         Stored (RunAlong th top id n start (digits g (2 * suc n) v)) count 0 (now (out .entry)) (now (out .exit))
         ⌝ }
 {
-    let mut table = [0u16; SIZE];
+    let marks = th.held;
+    if all_zero(marks) {
+        let mut table = [0u16; SMALL];
+        steps_in(&mut table, th, top, g, n, id, start, v, count, out);
+    } else {
+        let mut table = [0u16; SIZE];
+        steps_in(&mut table, th, top, g, n, id, start, v, count, out);
+    }
+}
+
+// The same, with the table for the search.
+fn steps_in(
+    table: &mut [u16],
+    th: Thread,
+    top: Top,
+    g: usize,
+    n: usize,
+    id: ThreadId,
+    start: usize,
+    v: usize,
+    count: usize,
+    out: &mut [u8],
+)
+    requires { ⌜
+        (1 ≤ g) × (g ≤ 4) × (n ≤ 2) × (start < g) × (v < g ^ (2 * suc n)) × TopFits top
+        × ThreadFits g th
+        ⌝ ∗ ⌜
+        LeastAlong th top id n start (digits g (2 * suc n) v) count × (count ≤ mostSteps) × (2 * count ≤ length (now out))
+        ⌝ ∗ ⌜ size (controlsOf th g) ≤ length (now table) ⌝ }
+    ensures { λ _. ⌜
+        Stored (RunAlong th top id n start (digits g (2 * suc n) v)) count 0 (now (out .entry)) (now (out .exit))
+        ⌝ }
+{
     let mut plan = [0u8; PLAN_SIZE];
-    prepare(&mut table, &mut plan, th, top, g, n, id, v);
+    prepare(table, &mut plan, th, top, g, n, id, v);
     let goal = start_goal(top, g, n, id, start, v, th.first.0 as usize);
-    pair(&table, &plan, goal, 16, count, out, 0);
+    pair(table, &plan, goal, 16, count, out, 0);
 }
 
 // The plan of a thread along a line, and the table solved for the line's turn ends and a top.
@@ -65,7 +100,7 @@ fn prepare(
     id: ThreadId,
     v: usize,
 )
-    requires { ⌜ (length (now table) ≡ size) × (length (now plan) ≡ planSize) ⌝
+    requires { ⌜ (size (controlsOf th g) ≤ length (now table)) × (length (now plan) ≡ planSize) ⌝
         ∗ ⌜ (1 ≤ g) × (g ≤ 4) × (n ≤ 2) × (v < g ^ (2 * suc n)) × TopFits top × ThreadFits g th ⌝ }
     ensures { λ _. ⌜ Prepared th top id g n (digits g (2 * suc n) v) (now (table .exit)) (now (plan .exit)) ⌝ }
 {
@@ -95,7 +130,7 @@ fn start_goal(
     let to = state_at(g, len, v, turn_of(id, n));
     Goal {
         passed: 0,
-        shared: from,
+        control: from,
         symbol,
         until: n,
         dest: stays_of(top) + to,

@@ -70,7 +70,7 @@ pub fn pair(
         return;
     }
     let y = middle(table, plan, goal, below, count);
-    if y < 12 {
+    if y < 24 {
         let first = goal.gone_at(y);
         let steps = entry_of(table, plan, first);
         stretch(table, plan, first, steps, out, at);

@@ -3,17 +3,19 @@ use crate::goal::Goal;
 use crate::plan::byte;
 use crate::plan::rule_of;
 use costs::line::entry_at;
-use costs::line::lane_to;
 use model::Right;
 use model::Rule;
 use summary::UNREACHED;
+use summary::cells::gone_at;
 ghost use mathlib.Core.Path.{_≡_};
 ghost use Prim.Native.Nat.{ℕ, _+_, _≤_, _<_};
-ghost use Rattle.model.specs.Fits.{RuleFits, RightFits};
+ghost use Rattle.model.specs.Fits.{RightFits};
 ghost use Rattle.model.specs.Schedules.{mostSteps};
-ghost use Rattle.costs.specs.Lanes.{endLane};
-ghost use Rattle.witness.specs.Goals.{entryOf, Ready, Decides, Sums, Splits, TightBy, Tight};
-ghost use Rattle.witness.specs.Plan.{rulesIn, ruleIn, endsIn, InRange};
+ghost use Rattle.costs.specs.Lanes.{LaneTo};
+ghost use Rattle.summary.specs.Cells.{gone};
+ghost use Rattle.summary.specs.Kinds.{RuleIn};
+ghost use Rattle.witness.specs.Goals.{entryOf, Ready, Decides, Sums, Above, Splits, TightBy, Tight};
+ghost use Rattle.witness.specs.Plan.{controlsIn, rulesIn, ruleIn, endsIn, InRange};
 
 // The first rule that is a tight first step; the number of rules where none is.
 pub fn first_rule(table: &[u16], plan: &[u8], goal: Goal, count: usize) -> usize
@@ -39,12 +41,13 @@ pub fn first_rule(table: &[u16], plan: &[u8], goal: Goal, count: usize) -> usize
     rules
 }
 
-// Whether a rule is a tight first step.
+// Whether a rule of the plan is a tight first step.
 fn suits(table: &[u16], plan: &[u8], goal: Goal, count: usize, rule: Rule) -> bool
-    requires { ⌜ Ready (now table) (now plan) goal ⌝ ∗ ⌜ (0 < count) × (count ≤ mostSteps) × RuleFits 4 rule ⌝ }
+    requires { ⌜ Ready (now table) (now plan) goal ⌝
+        ∗ ⌜ (0 < count) × (count ≤ mostSteps) × RuleIn (controlsIn (now plan)) (rule .after .0) rule ⌝ }
     ensures { λ r. ⌜ Decides r (Tight (now (table .entry)) (now (plan .entry)) goal count rule) ⌝ }
 {
-    if rule.before.0 as usize != goal.shared {
+    if rule.before.0 as usize != goal.control % 4 {
         return false;
     }
     if rule.symbol.0 as usize != goal.symbol {
@@ -57,7 +60,8 @@ fn suits(table: &[u16], plan: &[u8], goal: Goal, count: usize, rule: Rule) -> bo
 
 // The same of a rule that applies, by its right side.
 fn suits_by(table: &[u16], plan: &[u8], goal: Goal, count: usize, h: usize, right: Right) -> bool
-    requires { ⌜ Ready (now table) (now plan) goal ⌝ ∗ ⌜ (0 < count) × (count ≤ mostSteps) × (h < 4) × RightFits right ⌝ }
+    requires { ⌜ Ready (now table) (now plan) goal ⌝
+        ∗ ⌜ (0 < count) × (count ≤ mostSteps) × (h < controlsIn (now plan)) × RightFits right ⌝ }
     ensures { λ r. ⌜ Decides r (TightBy (now (table .entry)) (now (plan .entry)) goal count h right) ⌝ }
 {
     match right {
@@ -75,7 +79,8 @@ fn suits_by(table: &[u16], plan: &[u8], goal: Goal, count: usize, h: usize, righ
 
 // Whether to remove the symbol is all that a goal needs.
 fn removes(goal: Goal, count: usize, h: usize) -> bool
-    ensures { λ r. ⌜ Decides r ((count ≡ 1) × (goal .until ≡ goal .passed) × (goal .dest ≡ h)) ⌝ }
+    requires { ⌜ h < 8 ⌝ }
+    ensures { λ r. ⌜ Decides r ((count ≡ 1) × (goal .until ≡ goal .passed) × (goal .dest ≡ gone h)) ⌝ }
 {
     if count != 1 {
         return false;
@@ -83,7 +88,7 @@ fn removes(goal: Goal, count: usize, h: usize) -> bool
     if goal.until != goal.passed {
         return false;
     }
-    goal.dest == h
+    goal.dest == gone_at(h)
 }
 
 // Whether a pair can be had in just so many steps.
@@ -94,44 +99,52 @@ fn splits(table: &[u16], plan: &[u8], goal: Goal, below: usize, count: usize) ->
     if above(table, plan, goal, count) {
         return true;
     }
-    middle(table, plan, goal, below, count) < 12
+    middle(table, plan, goal, below, count) < 24
 }
 
 // Whether a pair can be had without touching its second symbol.
 pub fn above(table: &[u16], plan: &[u8], goal: Goal, count: usize) -> bool
     requires { ⌜ Ready (now table) (now plan) goal ⌝ }
-    ensures { λ r. ⌜ Decides r ((4 ≤ goal .dest) × (entryOf (now (table .entry)) (now (plan .entry)) goal ≡ count)) ⌝ }
+    ensures { λ r. ⌜ Decides r (Above (now (table .entry)) (now (plan .entry)) goal count) ⌝ }
 {
     if goal.dest < 4 {
+        return false;
+    }
+    if 12 <= goal.dest {
         return false;
     }
     entry_of(table, plan, goal) == count
 }
 
-// The first control at which the first symbol of a pair can be gone; 12 where there is none.
+// The first control at which the first symbol of a pair can be gone; 24 where there is none.
 pub fn middle(table: &[u16], plan: &[u8], goal: Goal, below: usize, count: usize) -> usize
     requires { ⌜ Ready (now table) (now plan) goal ⌝ ∗ ⌜ (below ≤ 16) × (count ≤ mostSteps) ⌝ }
-    ensures sums { λ r. ⌜ (r < 12 → Sums (now (table .entry)) (now (plan .entry)) goal below count r) ⌝ }
+    ensures sums { λ r. ⌜ (r < 24 → Sums (now (table .entry)) (now (plan .entry)) goal below count r) ⌝ }
     ensures none { λ r. ⌜
-        ((y : ℕ) → y < r → Sums (now (table .entry)) (now (plan .entry)) goal below count y → ⊥) × (r ≤ 12)
+        ((y : ℕ) → y < r → Sums (now (table .entry)) (now (plan .entry)) goal below count y → ⊥) × (r ≤ 24)
         ⌝ }
 {
+    let controls = byte(plan, 7);
     let mut y = 0;
-    while y < 12 {
-        if sums(table, plan, goal, below, count, y) {
-            return y;
+    while y < 24 {
+        if controls <= y % 8 {
+            y += 8 - y % 8;
+        } else {
+            if sums(table, plan, goal, below, count, y) {
+                return y;
+            }
+            y += 1;
         }
-        y += 1;
     }
-    12
+    24
 }
 
 // Whether the first symbol of a pair can be gone at control y.
 fn sums(table: &[u16], plan: &[u8], goal: Goal, below: usize, count: usize, y: usize) -> bool
-    requires { ⌜ Ready (now table) (now plan) goal ⌝ ∗ ⌜ (below ≤ 16) × (count ≤ mostSteps) × (y < 12) ⌝ }
+    requires { ⌜ Ready (now table) (now plan) goal ⌝ ∗ ⌜ (below ≤ 16) × (count ≤ mostSteps) × (y < 24) ⌝ }
     ensures { λ r. ⌜ Decides r (Sums (now (table .entry)) (now (plan .entry)) goal below count y) ⌝ }
 {
-    if byte(plan, 0) <= y % 4 {
+    if byte(plan, 7) <= y % 8 {
         return false;
     }
     let gone = entry_of(table, plan, goal.gone_at(y));
@@ -149,17 +162,27 @@ pub fn entry_of(table: &[u16], plan: &[u8], goal: Goal) -> usize
     if goal.until < goal.passed {
         return UNREACHED as usize;
     }
-    let a = lane_in(plan, 0);
-    let b = lane_in(plan, 1);
-    let last = lane_to(goal.until, a, b);
     let gap = goal.until - goal.passed;
-    entry_at(table, gap, goal.shared, goal.symbol, goal.dest, last) as usize
+    let last = lane_before(plan, goal.until);
+    let controls = byte(plan, 7);
+    entry_at(
+        table,
+        controls,
+        gap,
+        goal.control,
+        goal.symbol,
+        goal.dest,
+        last,
+    ) as usize
 }
 
-// The lane of turn end j.
-fn lane_in(plan: &[u8], j: usize) -> usize
-    requires { ⌜ InRange (now plan) ⌝ ∗ ⌜ j < 2 ⌝ }
-    ensures { λ r. ⌜ (r ≡ endLane (endsIn (now (plan .entry))) j) × (r < 16) ⌝ }
+// The lane of the turn end before the thread's own turn j. Before turn 0 there is none, and any number will do.
+fn lane_before(plan: &[u8], j: usize) -> usize
+    requires { ⌜ InRange (now plan) ⌝ ∗ ⌜ j ≤ 2 ⌝ }
+    ensures { λ r. ⌜ LaneTo (endsIn (now (plan .entry))) j r × (r < 16) ⌝ }
 {
-    byte(plan, 2 + 2 * j) * 4 + byte(plan, 3 + 2 * j)
+    if j == 0 {
+        return 0;
+    }
+    byte(plan, 2 * j) * 4 + byte(plan, 2 * j + 1)
 }

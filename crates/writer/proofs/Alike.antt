@@ -43,6 +43,8 @@ same-record {m} {n} s v p q =
       s .target,
       s .a .top,
       s .b .top,
+      s .a .held,
+      s .b .held,
       s .a .first,
       s .b .first,
       s .a .count,

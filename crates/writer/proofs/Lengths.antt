@@ -1,11 +1,11 @@
--- How long the record of a valid model is: at most 652 bytes, and one model has as many.
+-- How long the record of a valid model is: at most 668 bytes, and one model has as many.
 use mathlib.Core.Bool.{Bool, true, false, cond}
 use mathlib.Core.List.{List, [], _∷_}
 use mathlib.Core.Path.{_≡_, refl}
 use Prim.Native.Nat.{ℕ, zero, suc, _*_, _≤_}
 use native.Mathlib.Omega.{arith}
 use lib.Dec.{eqb}
-use lib.ListN.{length, take, replicate, length-append}
+use lib.ListN.{length, take, replicate, length-append, length-take}
 use Rattle.model.proofs.Ranges.{valid-fits}
 use Rattle.model.specs.declared.Model.{Model}
 use Rattle.model.specs.declared.Right.{Right}
@@ -14,10 +14,12 @@ use Rattle.model.specs.declared.Rule.{Rule}
 use Rattle.model.specs.declared.Thread.{Thread}
 use Rattle.model.specs.declared.Top.{Top}
 use Rattle.model.specs.declared.Top.the-variants.{Any, Named}
+use Rattle.model.specs.Bits.{allZero}
 use Rattle.model.specs.Results.{firstOf}
 use Rattle.model.specs.Valid.{Valid, faultOf, headFault, rangeFault, topFault, threadFault, ruleFault, rightFault, symbolFault}
+use Rattle.model.specs.Valid.{freeFrom, markFault}
 use Rattle.writer.specs.Writer.{fieldOf, weightOf, symbolsOf, ruleBytes, ruleListOf, rulesOf, mapOf, headBytes, recordOf}
-use Rattle.writer.specs.Writer.{topOf, secondMap, targetBytes}
+use Rattle.writer.specs.Writer.{topOf, heldBytes, Second, secondOf, secondMap, secondFields, targetBytes}
 
 -- A field has at most one byte.
 field : (d v : ℕ) → length (fieldOf d v) ≤ 1
@@ -56,28 +58,44 @@ top : (t : Top) → length (topOf t) ≤ 1
 top Any = omega arith
 top (Named x) = omega arith
 
--- The target, the second map and its fields have at most four.
-target : (q : ℕ) (a b : Top) → length (targetBytes q a b) ≤ 4
-unfolding targetBytes
-target q a b = simp length-append (omega (arith, field 0 (secondMap a b), top a, top b))
+-- Marks have at most eight.
+held : (l : List ℕ) → length (heldBytes l) ≤ 8
+unfolding heldBytes
+held l = go (allZero l)
+  where
+    go : (b : Bool) → length (cond b [] (take 8 l)) ≤ 8
+    go true = omega arith
+    go false = simp length-take (omega arith)
 
--- Ten bytes come before the rules at most.
-head : (m : Model) → length (headBytes m) ≤ 10
+-- The fields of the second map have at most 18.
+second : (x : Second) → length (secondFields x) ≤ 18
+unfolding secondFields
+second x =
+    simp length-append
+    (omega (arith, top (x .a .top), top (x .b .top), held (x .a .held), held (x .b .held)))
+
+-- The target, the second map and its fields have at most 20.
+target : (q : ℕ) (x : Second) → length (targetBytes q x) ≤ 20
+unfolding targetBytes
+target q x = simp length-append (omega (arith, field 0 (secondMap x), second x))
+
+-- 26 bytes come before the rules at most.
+head : (m : Model) → length (headBytes m) ≤ 26
 unfolding headBytes
 head m =
-    let fields = target (m .target .0) (m .a .top) (m .b .top) in
+    let fields = target (m .target .0) (secondOf m) in
     simp length-append
     (omega
     (arith, field 4 (m .g), field 2 (m .k), field 0 (m .start .0), fields, field 0 (m .a .first .0), field 0 (m .b .first .0)))
 
--- The record of a valid model has at most 652 bytes, 10 + 2 · 321.
-pub at-most : (m : Model) → Valid m → length (recordOf m) ≤ 652
+-- The record of a valid model has at most 668 bytes, 26 + 2 · 321.
+pub at-most : (m : Model) → Valid m → length (recordOf m) ≤ 668
 unfolding recordOf
 at-most m h =
     let f = valid-fits m .0 h in
     simp length-append (omega (arith, head m, thread (m .a) (f .a .count), thread (m .b) (f .b .count)))
 
--- A thread of 64 rules that leave nothing to absence.
+-- A thread of 64 rules, all held, that leave nothing to absence.
 full : Thread
 full =
     let long : Rule = record {
@@ -86,7 +104,13 @@ full =
       after = record { 0 = 1 };
       right = Push (record { 0 = 2 }) (record { 0 = 3 });
     } in
-    record { first = record { 0 = 1 }; top = Named (record { 0 = 1 }); count = 64; rules = replicate 64 long }
+    record {
+      first = record { 0 = 1 };
+      top = Named (record { 0 = 1 });
+      held = replicate 8 255;
+      count = 64;
+      rules = replicate 64 long;
+    }
 
 -- A model that leaves nothing to absence.
 pub longest : Model
@@ -94,9 +118,9 @@ longest = record { g = 3; k = 1; start = record { 0 = 1 }; target = record { 0 =
 
 -- It is valid, and no record is longer than its own.
 pub longest-valid : Valid longest
-unfolding longest full faultOf firstOf headFault rangeFault topFault threadFault ruleFault rightFault symbolFault
+unfolding longest full faultOf firstOf headFault rangeFault topFault threadFault ruleFault rightFault symbolFault markFault freeFrom
 longest-valid = refl
 
-pub longest-length : length (recordOf longest) ≡ 652
-unfolding longest full recordOf mapOf weightOf fieldOf rulesOf ruleListOf ruleBytes headBytes targetBytes secondMap
+pub longest-length : length (recordOf longest) ≡ 668
+unfolding longest full recordOf mapOf weightOf fieldOf rulesOf ruleListOf ruleBytes headBytes targetBytes secondMap secondFields heldBytes allZero
 longest-length = refl

@@ -1,4 +1,5 @@
 -- Bytes put one after another: what each helper of the writer puts adds up to the whole.
+use mathlib.Core.Bool.{true, false}
 use mathlib.Core.List.{List, [], _∷_, _++_, append-assoc, append-nil}
 use mathlib.Core.Path.{_≡_, refl}
 use Prim.Native.Nat.{ℕ, zero, suc, _+_, _≤_, _<_}
@@ -8,10 +9,11 @@ use lib.ListN.{length, take, drop, getD, set, length-append}
 use lib.Seq.{length-take-le, drop-cons, set-at, take-suc, append-snoc}
 use borrow.Author.Tests.{eq-eqb, ne-eqb}
 use Rattle.model.specs.declared.Rule.{Rule}
+use Rattle.model.specs.Bits.{allZero}
 use Rattle.model.specs.Rules.{zeroRule}
 use Rattle.model.proofs.Stores.{sets-append}
 use Rattle.writer.specs.Put.{Put}
-use Rattle.writer.specs.Writer.{fieldOf, ruleBytes, ruleListOf}
+use Rattle.writer.specs.Writer.{fieldOf, ruleBytes, ruleListOf, heldBytes}
 
 -- Nothing put.
 pub nothing : (l : List ℕ) (i : ℕ) → Put l l i i []
@@ -34,6 +36,16 @@ absent d v e = rw (eq-eqb v d e)
 pub present : (d v : ℕ) → (v ≡ d → ⊥) → fieldOf d v ≡ v ∷ []
 unfolding fieldOf
 present d v h = rw (ne-eqb v d h)
+
+-- Marks of which none stands have no byte ..
+pub unheld : (held : List ℕ) → allZero held ≡ true → heldBytes held ≡ []
+unfolding heldBytes
+unheld held e = rw e
+
+-- .. and any others have their eight.
+pub marked : (held : List ℕ) → allZero held ≡ false → heldBytes held ≡ take 8 held
+unfolding heldBytes
+marked held e = rw e
 
 -- One rule more of a list adds its bytes at the end ..
 pub one-more : (i n : ℕ) (l : List Rule) → i < n → n ≤ length l

@@ -11,6 +11,7 @@ use Rattle.model.specs.declared.Rule.{Rule}
 use Rattle.model.specs.declared.Thread.{Thread}
 use Rattle.model.specs.declared.Top.{Top}
 use Rattle.model.specs.declared.Top.the-variants.{Any, Named}
+use Rattle.model.specs.Bits.{allZero}
 
 -- A field's byte, unless it is the default.
 unfoldable pub fieldOf : ℕ → ℕ → List ℕ
@@ -63,20 +64,47 @@ abbrev pub topWeight : ℕ → Top → ℕ
 topWeight w Any = 0
 topWeight w (Named x) = w
 
--- The second map, by the tops of A and of B: bit 0 and bit 1.
-unfoldable pub secondMap : Top → Top → ℕ
-secondMap a b = topWeight 1 a + topWeight 2 b
+-- The eight bytes of a thread's marks, unless no mark stands.
+unfoldable pub heldBytes : List ℕ → List ℕ
+heldBytes held = cond (allZero held) [] (take 8 held)
+
+-- What marks add to the second map: the weight of their bit, unless none stands.
+abbrev pub heldWeight : ℕ → List ℕ → ℕ
+heldWeight w held = cond (allZero held) 0 w
+
+-- What a second map says of a thread: the top that is asked for, and the marks of its held rules.
+pub record Extra : Type 0 where
+  pub top : Top
+  pub held : List ℕ
+
+-- What it says of A and of B.
+pub record Second : Type 0 where
+  pub a : Extra
+  pub b : Extra
+
+-- What the second map of a model says.
+abbrev pub secondOf : Model → Second
+secondOf m =
+    record { a = record { top = m .a .top; held = m .a .held }; b = record { top = m .b .top; held = m .b .held } }
+
+-- The second map: bit 0 and bit 1 for the tops of A and of B, bit 2 and bit 3 for their marks.
+unfoldable pub secondMap : Second → ℕ
+secondMap x =
+    topWeight 1 (x .a .top) + topWeight 2 (x .b .top) + heldWeight 4 (x .a .held) + heldWeight 8 (x .b .held)
+
+-- The fields of the second map, in bit order.
+unfoldable pub secondFields : Second → List ℕ
+secondFields x = topOf (x .a .top) ++ topOf (x .b .top) ++ heldBytes (x .a .held) ++ heldBytes (x .b .held)
 
 -- The target byte, its bit 7 announcing a second map; then that map and its fields, unless the map is 0.
-unfoldable pub targetBytes : ℕ → Top → Top → List ℕ
-targetBytes target a b =
-    (target + weightOf 7 0 (secondMap a b)) ∷ fieldOf 0 (secondMap a b) ++ topOf a ++ topOf b
+unfoldable pub targetBytes : ℕ → Second → List ℕ
+targetBytes target x = (target + weightOf 7 0 (secondMap x)) ∷ fieldOf 0 (secondMap x) ++ secondFields x
 
 -- The map and the head fields.
 unfoldable pub headBytes : Model → List ℕ
 headBytes m =
     mapOf m ∷ fieldOf 4 (m .g) ++ fieldOf 2 (m .k) ++ fieldOf 0 (m .start .0) ++
-    targetBytes (m .target .0) (m .a .top) (m .b .top) ++ fieldOf 0 (m .a .first .0) ++ fieldOf 0 (m .b .first .0)
+    targetBytes (m .target .0) (secondOf m) ++ fieldOf 0 (m .a .first .0) ++ fieldOf 0 (m .b .first .0)
 
 -- The record of a model.
 unfoldable pub recordOf : Model → List ℕ

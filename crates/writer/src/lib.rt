@@ -12,7 +12,7 @@ ghost use lib.Dec.{eqb};
 ghost use lib.ListN.{length, take, drop};
 ghost use Rattle.writer.specs.Put.{Put, Halves, Small, SmallModel};
 ghost use Rattle.writer.specs.Writer.{fieldOf, symbolsOf, symbolBits, ruleBytes, rulesOf, mapOf, headBytes, recordOf};
-ghost use Rattle.writer.specs.Writer.{topOf, topWeight, targetBytes};
+ghost use Rattle.writer.specs.Writer.{topOf, topWeight, heldBytes, heldWeight, secondOf, secondMap, secondFields, targetBytes};
 
 // A whole record, from the front of the buffer.
 pub fn put_record(s: &mut [u8], m: Model) -> usize
@@ -53,20 +53,45 @@ fn put_head(s: &mut [u8], m: Model) -> usize
     put_field(s, at, 0, m.b.first.0)
 }
 
-// The target byte, and where a top is named the second map and its fields, which bit 7 announces.
+// The target byte, and where a top is named or a rule is held the second map and its fields, which bit 7 announces.
 fn put_target(s: &mut [u8], at: usize, m: Model) -> usize
-    requires { ⌜ SmallModel m × (at + length (targetBytes (m .target .0) (m .a .top) (m .b .top)) ≤ length (now s)) ⌝ }
-    ensures { λ r. ⌜ Put (now (s .entry)) (now (s .exit)) at r (targetBytes (m .target .0) (m .a .top) (m .b .top)) ⌝ }
+    requires { ⌜ SmallModel m × (at + length (targetBytes (m .target .0) (secondOf m)) ≤ length (now s)) ⌝ }
+    ensures { λ r. ⌜ Put (now (s .entry)) (now (s .exit)) at r (targetBytes (m .target .0) (secondOf m)) ⌝ }
+{
+    let map = second_map(m);
+    let mut next = put_byte(s, at, m.target.0 + weight(128, 0, map));
+    next = put_field(s, next, 0, map);
+    put_second(s, next, m)
+}
+
+// The second map: the weights of its fields that are present.
+fn second_map(m: Model) -> u8
+    ensures { λ r. ⌜ (r ≡ secondMap (secondOf m)) × (r ≤ 15) ⌝ }
 {
     let a = m.a;
     let top_a = a.top;
+    let held_a = a.held;
     let b = m.b;
     let top_b = b.top;
-    let map = top_weight(1, top_a) + top_weight(2, top_b);
-    let mut next = put_byte(s, at, m.target.0 + weight(128, 0, map));
-    next = put_field(s, next, 0, map);
-    next = put_top(s, next, top_a);
-    put_top(s, next, top_b)
+    let held_b = b.held;
+    top_weight(1, top_a) + top_weight(2, top_b) + held_weight(4, held_a) + held_weight(8, held_b)
+}
+
+// The fields of the second map, in bit order.
+fn put_second(s: &mut [u8], at: usize, m: Model) -> usize
+    requires { ⌜ at + length (secondFields (secondOf m)) ≤ length (now s) ⌝ }
+    ensures { λ r. ⌜ Put (now (s .entry)) (now (s .exit)) at r (secondFields (secondOf m)) ⌝ }
+{
+    let a = m.a;
+    let top_a = a.top;
+    let held_a = a.held;
+    let b = m.b;
+    let top_b = b.top;
+    let held_b = b.held;
+    let mut next = put_top(s, at, top_a);
+    next = put_top(s, next, top_b);
+    next = put_held(s, next, held_a);
+    put_held(s, next, held_b)
 }
 
 // What a top adds to the second map: the weight of its bit, where it is named.
@@ -88,6 +113,30 @@ fn put_top(s: &mut [u8], at: usize, t: Top) -> usize
         Top::Any => at,
         Top::Named(x) => put_byte(s, at, x.0),
     }
+}
+
+// What marks add to the second map: the weight of their bit, unless none stands.
+fn held_weight(w: u8, held: [u8; 8]) -> u8
+    ensures { λ r. ⌜ (r ≡ heldWeight w held) × (r ≤ w) ⌝ }
+{
+    if model::all_zero(held) { 0 } else { w }
+}
+
+// The eight bytes of a thread's marks, unless no mark stands.
+fn put_held(s: &mut [u8], at: usize, held: [u8; 8]) -> usize
+    requires { ⌜ at + length (heldBytes held) ≤ length (now s) ⌝ }
+    ensures { λ r. ⌜ Put (now (s .entry)) (now (s .exit)) at r (heldBytes held) ⌝ }
+{
+    if model::all_zero(held) {
+        return at;
+    }
+    let mut next = at;
+    let mut i = 0;
+    while i < 8 {
+        next = put_byte(s, next, held[i]);
+        i += 1;
+    }
+    next
 }
 
 // The map of a model: the weights of its fields that are present.

@@ -11,12 +11,12 @@ use Rattle.costs.proofs.fill_all.Statement.{statement}
 use Rattle.costs.proofs.fill_all.Tie as tie
 
 abbrev Inv-loop : tie.InvT-loop
-Inv-loop table costs₀ g n id start symbol stays count v₀ costs v =
-    (count ≡ g ^ (2 * suc n)) × (count ≤ fullLines) × (v ≤ count)
-    × Front (λ v x. (f : Top) → stays ≡ staysOf f → x ≡ costOf id table g n start symbol f v) v costs₀ costs
+Inv-loop table costs₀ side n stays count v₀ costs v =
+    (count ≡ side .g ^ (2 * suc n)) × (count ≤ fullLines) × (v ≤ count)
+    × Front (λ v x. (f : Top) → stays ≡ staysOf f → x ≡ costOf table side n f v) v costs₀ costs
 
 abbrev μ-loop : tie.MeasureT-loop
-μ-loop table costs₀ g n id start symbol stays count v₀ costs v = count - v
+μ-loop table costs₀ side n stays count v₀ costs v = count - v
 
 mul-power : tie.Need-mul-power Inv-loop μ-loop
 mul-power c = search needs

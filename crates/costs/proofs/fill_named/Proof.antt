@@ -15,7 +15,7 @@ fill-all-requires : tie.Need-fill-all-requires
 fill-all-requires c κs =
     let pre = c .before .before .before .before .before .pre in
     let room = pre .1 .named _ (c .before .enum-told2 .given .1) in
-    (pre .0 .0, room, pre .0 .1, pre .0 .2, pre .0 .3, pre .0 .4, pre .0 .5, search needs)
+    (pre .0 .0, pre .0 .1, room, pre .0 .2, search needs)
 
 returns : tie.Need-returns
 returns c = where-none (c .enum-told .given .1)

@@ -1,16 +1,20 @@
--- `verdict` meets its contract: by cases on whether a top is named.
+-- `verdict` meets its contract: the table that it makes has room for the model.
+use mathlib.Core.Path.{sym, _∙_}
 use borrow.Author.Needs.{needs}
+use Rattle.costs.proofs.Rooms.{small-room, large-room}
 use Rattle.judge.proofs.verdict.Statement.{statement}
 use Rattle.judge.proofs.verdict.Tie as tie
 
-names-requires : tie.Need-names-requires
-names-requires c κs = search needs
+is-free-requires : tie.Need-is-free-requires
+is-free-requires c κs = search needs
 
-slice-aggregate-to-tops : tie.Need-slice-aggregate-to-tops
-slice-aggregate-to-tops c = search needs
+slice-aggregate-by-tops : tie.Need-slice-aggregate-by-tops
+slice-aggregate-by-tops c = search needs
 
-to-tops-requires : tie.Need-to-tops-requires
-to-tops-requires c κs = search needs
+by-tops-requires : tie.Need-by-tops-requires
+by-tops-requires c κs =
+    let pre = c .before .before .before .before .before .before .before .pre in
+    (pre .0, (small-room (pre .0) (sym (c .before .before .before .before .is-free .ensures) ∙ c .before .before .before .if1 .taken) (search needs), (pre .1 .0, pre .1 .1)))
 
 same-length : tie.Need-same-length
 same-length c = search needs
@@ -21,14 +25,13 @@ same-length-2 c = search needs
 returns : tie.Need-returns
 returns c = search needs
 
-names-requires-2 : tie.Need-names-requires-2
-names-requires-2 c κs = search needs
+slice-aggregate-by-tops-2 : tie.Need-slice-aggregate-by-tops-2
+slice-aggregate-by-tops-2 c = search needs
 
-slice-aggregate-to-tops-2 : tie.Need-slice-aggregate-to-tops-2
-slice-aggregate-to-tops-2 c = search needs
-
-to-tops-requires-2 : tie.Need-to-tops-requires-2
-to-tops-requires-2 c κs = search needs
+by-tops-requires-2 : tie.Need-by-tops-requires-2
+by-tops-requires-2 c κs =
+    let pre = c .before .before .before .before .before .before .before .pre in
+    (pre .0, (large-room (pre .0) (search needs), (pre .1 .0, pre .1 .1)))
 
 same-length-3 : tie.Need-same-length-3
 same-length-3 c = search needs
@@ -39,43 +42,18 @@ same-length-4 c = search needs
 returns-2 : tie.Need-returns-2
 returns-2 c = search needs
 
-slice-aggregate-to-any : tie.Need-slice-aggregate-to-any
-slice-aggregate-to-any c = search needs
-
-to-any-requires : tie.Need-to-any-requires
-to-any-requires c κs =
-    let pre = c .before .before .before .before .before .before .before .before .before .before .before .pre in (
-      pre .0,
-      (search needs, (pre .1 .0, (pre .1 .1, (c .before .before .before .before .before .before .before .names .ensures .0 (c .before .before .before .before .before .before .if1 .left), c .before .before .before .before .names2 .ensures .0 (c .before .before .before .if2 .left))))),
-    )
-
-same-length-5 : tie.Need-same-length-5
-same-length-5 c = search needs
-
-same-length-6 : tie.Need-same-length-6
-same-length-6 c = search needs
-
-returns-3 : tie.Need-returns-3
-returns-3 c = search needs
-
 pub verdict-spec : {M : Type 1} → statement M
 verdict-spec =
     tie.close
     (tie.spec
-    names-requires
-    slice-aggregate-to-tops
-    to-tops-requires
+    is-free-requires
+    slice-aggregate-by-tops
+    by-tops-requires
     same-length
     same-length-2
     returns
-    names-requires-2
-    slice-aggregate-to-tops-2
-    to-tops-requires-2
+    slice-aggregate-by-tops-2
+    by-tops-requires-2
     same-length-3
     same-length-4
-    returns-2
-    slice-aggregate-to-any
-    to-any-requires
-    same-length-5
-    same-length-6
-    returns-3)
+    returns-2)

@@ -1,4 +1,4 @@
--- `fault` meets its contract: the three parts are checked in order, and the first fault of a part is the answer.
+-- `fault` meets its contract: the parts are checked in order, and the first fault of a part is the answer.
 use borrow.Author.Needs.{needs}
 use Rattle.model.specs.Valid.{faultOf}
 use Rattle.model.proofs.Checks.{stops, passes, closes}
@@ -10,7 +10,8 @@ head-fault-requires c κs = search needs
 
 returns : tie.Need-returns
 unfolding faultOf
-returns c = stops _ (c .before .head-fault .ensures) (c .if1 .taken)
+returns c =
+    stops _ (c .before .head-fault .ensures) (c .if1 .taken)
 
 thread-fault-requires : tie.Need-thread-fault-requires
 thread-fault-requires c κs = search needs
@@ -27,8 +28,32 @@ thread-fault-requires-2 c κs = search needs
 returns-3 : tie.Need-returns-3
 unfolding faultOf
 returns-3 c =
-    passes _ (c .before .before .before .before .before .before .head-fault .ensures) (c .before .before .before .before .before .if1 .left)
-    (passes _ (c .before .before .before .thread-fault .ensures) (c .before .before .if2 .left) (closes (c .thread-fault2 .ensures)))
+    passes _ (c .before .before .before .before .before .before .before .head-fault .ensures) (c .before .before .before .before .before .before .if1 .left)
+    (passes _ (c .before .before .before .before .thread-fault .ensures) (c .before .before .before .if2 .left)
+    (stops _ (c .before .thread-fault2 .ensures) (c .if3 .taken)))
+
+mark-fault-requires : tie.Need-mark-fault-requires
+mark-fault-requires c κs = search needs
+
+returns-4 : tie.Need-returns-4
+unfolding faultOf
+returns-4 c =
+    passes _ (c .before .before .before .before .before .before .before .before .before .head-fault .ensures) (c .before .before .before .before .before .before .before .before .if1 .left)
+    (passes _ (c .before .before .before .before .before .before .thread-fault .ensures) (c .before .before .before .before .before .if2 .left)
+    (passes _ (c .before .before .before .thread-fault2 .ensures) (c .before .before .if3 .left)
+    (stops _ (c .before .mark-fault .ensures) (c .if4 .taken))))
+
+mark-fault-requires-2 : tie.Need-mark-fault-requires-2
+mark-fault-requires-2 c κs = search needs
+
+returns-5 : tie.Need-returns-5
+unfolding faultOf
+returns-5 c =
+    passes _ (c .before .before .before .before .before .before .before .before .before .before .head-fault .ensures) (c .before .before .before .before .before .before .before .before .before .if1 .left)
+    (passes _ (c .before .before .before .before .before .before .before .thread-fault .ensures) (c .before .before .before .before .before .before .if2 .left)
+    (passes _ (c .before .before .before .before .thread-fault2 .ensures) (c .before .before .before .if3 .left)
+    (passes _ (c .before .before .mark-fault .ensures) (c .before .if4 .left)
+    (closes (c .mark-fault2 .ensures)))))
 
 pub fault-spec : {M : Type 1} → statement M
 fault-spec =
@@ -39,4 +64,8 @@ fault-spec =
     thread-fault-requires
     returns-2
     thread-fault-requires-2
-    returns-3)
+    returns-3
+    mark-fault-requires
+    returns-4
+    mark-fault-requires-2
+    returns-5)

@@ -2,9 +2,7 @@
 use Prim.Native.Nat.{_-_}
 use native.Mathlib.Omega.{arith}
 use borrow.Author.Needs.{needs}
-use Rattle.walk.proofs.steps.Reads as steps-reads
 use Rattle.page.proofs.Printing.{Printing, printing-start, step-room, line-room, printing-next, printing-stops, printing-ends}
-use Rattle.page.proofs.line.put_step.Reads as put-step-reads
 use Rattle.page.proofs.put_steps.Statement.{statement}
 use Rattle.page.proofs.put_steps.Tie as tie
 
@@ -25,17 +23,17 @@ mul-from c = search needs
 add-to : tie.Need-add-to Inv-loop μ-loop
 add-to c = search needs
 
-sub-steps : tie.Need-sub-steps Inv-loop μ-loop
-sub-steps c = search needs
+sub-run : tie.Need-sub-run Inv-loop μ-loop
+sub-run c = search needs
 
-part-steps-start : tie.Need-part-steps-start Inv-loop μ-loop
-part-steps-start c = search needs
+part-run-start : tie.Need-part-run-start Inv-loop μ-loop
+part-run-start c = search needs
 
-part-steps-end : tie.Need-part-steps-end Inv-loop μ-loop
-part-steps-end c = search needs
+part-run-end : tie.Need-part-run-end Inv-loop μ-loop
+part-run-end c = search needs
 
-steps-requires : tie.Need-steps-requires Inv-loop μ-loop
-steps-requires c κs = step-room (c .before .before .before .before .loop .inv) (c .before .before .before .loop-test .taken)
+run-requires : tie.Need-run-requires Inv-loop μ-loop
+run-requires c κs = step-room (c .before .before .before .before .loop .inv) (c .before .before .before .loop-test .taken)
 
 enum-known-v : tie.Need-enum-known-v Inv-loop μ-loop
 enum-known-v c = search needs
@@ -55,7 +53,7 @@ same-length-3 c = search needs
 returns : tie.Need-returns Inv-loop μ-loop
 returns c =
     let loop = c .before .before .before .before .before .before .before .before .before .before .before .loop in (
-      printing-stops (loop .inv) (c .before .before .before .before .before .before .before .before .before .before .loop-test .taken) (rw (c .enum-told .given .1) at (c .before .before .before .before .before .before .steps .ensures .0)),
+      printing-stops (loop .inv) (c .before .before .before .before .before .before .before .before .before .before .loop-test .taken) (rw (c .enum-told .given .1) at (c .before .before .before .before .before .before .run .ensures .0)),
       omega (arith, loop .inv .ends, loop .inv .place),
     )
 
@@ -73,7 +71,7 @@ shared-slice-read-put-step-2 c = search needs
 
 put-step-requires : tie.Need-put-step-requires Inv-loop μ-loop
 put-step-requires c κs =
-    let made = rw (c .before .before .before .before .before .before .v .given .1) at (c .before .before .before .before .before .before .before .before .before .before .before .before .steps .ensures) in
+    let made = rw (c .before .before .before .before .before .before .v .given .1) at (c .before .before .before .before .before .before .before .before .before .before .before .before .run .ensures) in
     line-room (c .before .before .before .before .before .before .before .before .before .before .before .before .before .before .before .before .before .loop .inv) (c .before .before .before .before .before .before .before .before .before .before .before .before .before .before .before .before .loop-test .taken) _ _ _ (made .0) (made .1) (omega arith) (omega arith)
 
 loop-less : tie.Need-loop-less Inv-loop μ-loop
@@ -81,7 +79,7 @@ loop-less c = search needs
 
 loop-again : tie.Need-loop-again Inv-loop μ-loop
 loop-again c =
-    let made = rw (c .before .before .before .before .before .before .before .before .before .v .given .1) at (c .before .before .before .before .before .before .before .before .before .before .before .before .before .before .before .steps .ensures) in
+    let made = rw (c .before .before .before .before .before .before .before .before .before .v .given .1) at (c .before .before .before .before .before .before .before .before .before .before .before .before .before .before .before .run .ensures) in
     let line = c .before .before .put-step .ensures in
     printing-next (c .before .before .before .before .before .before .before .before .before .before .before .before .before .before .before .before .before .before .before .before .loop .inv) (c .before .before .before .before .before .before .before .before .before .before .before .before .before .before .before .before .before .before .before .loop-test .taken) (made .0) (made .1) (omega arith) (omega arith) (line .0) (line .1)
 
@@ -108,10 +106,10 @@ put-steps-spec =
     loop-holds
     mul-from
     add-to
-    sub-steps
-    part-steps-start
-    part-steps-end
-    steps-requires
+    sub-run
+    part-run-start
+    part-run-end
+    run-requires
     enum-known-v
     enum-told
     same-length

@@ -19,13 +19,18 @@ returns c = faulty _ _ (c .before .fault .ensures) (c .if1 .taken)
 valid : (c : tie.Else1) → Valid (c .before .before .before .args .m)
 valid c = sym (c .before .fault .ensures) ∙ c .if1 .left
 
--- Its rule places are as many as its type says.
+-- Its rule places and its bytes of marks are as many as its type says.
 places : (c : tie.Else1) → Places (c .before .before .before .args .m)
 places c =
     let fields = c .before .before .before .good .0 .0 .1 .1 .1 .1 in
     let a = fields .0 in
     let b = fields .1 .0 in
-    record { a = search (length-mapped, needs); b = search (length-mapped, needs) }
+    record {
+      a = search (length-mapped, needs);
+      b = search (length-mapped, needs);
+      heldA = search needs;
+      heldB = search needs;
+    }
 
 slice-aggregate-put-record : tie.Need-slice-aggregate-put-record
 slice-aggregate-put-record c = search needs

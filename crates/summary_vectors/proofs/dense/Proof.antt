@@ -20,7 +20,7 @@ whole-requires : tie.Need-whole-requires
 whole-requires c κs =
     let read = c .before .before .before .before .before .read in
     let z = accepted-fits (read .result) _ (c .before .before .enum-told2 .given .1) (read .ensures .1) in
-    (search needs, z .0, z .1)
+    (search needs, z .0, z .1, z .2)
 
 returns : tie.Need-returns
 returns c = search needs

@@ -1,6 +1,6 @@
 -- `doubling` is safe: the model of an accepted record is valid, so its thread may be solved.
 use borrow.Author.Needs.{needs}
-use Rattle.summary_vectors.proofs.Accepted.{accepted-fits}
+use Rattle.summary_vectors.proofs.Accepted.{accepted-fits, roomy}
 use Rattle.summary_vectors.proofs.doubling.Statement.{statement}
 use Rattle.summary_vectors.proofs.doubling.Tie as tie
 
@@ -26,7 +26,7 @@ close-plain-requires : tie.Need-close-plain-requires
 close-plain-requires c κs =
     let read = c .before .before .before .before .before .read in
     let z = accepted-fits (read .result) _ (c .before .before .enum-told2 .given .1) (read .ensures .1) in
-    (search needs, z .0, tt, z .1)
+    (roomy (read .result .model .a) (z .1) (search needs), z .0, z .1, tt, z .2)
 
 compared-requires : tie.Need-compared-requires
 compared-requires c κs = search needs

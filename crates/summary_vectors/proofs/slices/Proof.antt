@@ -4,30 +4,28 @@ use Prim.Native.Nat.{_-_}
 use lib.ListN.{length}
 use borrow.Author.Needs.{needs}
 use Rattle.model.specs.declared.Top.the-variants.{Any}
-use Rattle.summary.specs.Cells.{size, second, First, Solved}
+use Rattle.summary.specs.Cells.{controlsOf, size, second, First, Solved}
 use Rattle.summary_vectors.proofs.slices.Statement.{statement}
 use Rattle.summary_vectors.proofs.slices.Tie as tie
 
 abbrev Inv-loop : tie.InvT-loop
-Inv-loop t₀ n th sum₀ e₀ t sum e = (length t ≡ size) × Solved (First th Any n) second t
+Inv-loop t₀ g th sum₀ o₀ t sum o =
+    (length t ≡ size 8) × Solved (controlsOf th g) (First th Any (controlsOf th g)) (second (controlsOf th g)) t
 
 abbrev μ-loop : tie.MeasureT-loop
-μ-loop t₀ n th sum₀ e₀ t sum e = 16 - e
+μ-loop t₀ g th sum₀ o₀ t sum o = g - o
 
 loop-holds : tie.Need-loop-holds Inv-loop μ-loop
 loop-holds c = search needs
 
-close-second-requires : tie.Need-close-second-requires Inv-loop μ-loop
-close-second-requires c κs = search needs
-
-total-requires : tie.Need-total-requires Inv-loop μ-loop
-total-requires c κs = search needs
+slices-from-requires : tie.Need-slices-from-requires Inv-loop μ-loop
+slices-from-requires c κs = search needs
 
 wrapping-add-u64-requires : tie.Need-wrapping-add-u64-requires Inv-loop μ-loop
 wrapping-add-u64-requires c κs = search needs
 
-add-e : tie.Need-add-e Inv-loop μ-loop
-add-e c = search needs
+add-o : tie.Need-add-o Inv-loop μ-loop
+add-o c = search needs
 
 loop-less : tie.Need-loop-less Inv-loop μ-loop
 loop-less c = search needs
@@ -48,10 +46,9 @@ slices-spec =
     Inv-loop
     μ-loop
     loop-holds
-    close-second-requires
-    total-requires
+    slices-from-requires
     wrapping-add-u64-requires
-    add-e
+    add-o
     loop-less
     loop-again
     same-length

@@ -32,13 +32,17 @@ returns-4 c = (other-top _ _ _ _ _ _ (omega arith) (omega arith) (omega arith) (
 place-right-requires : tie.Need-place-right-requires
 place-right-requires c κs = search needs
 
+is-held-requires : tie.Need-is-held-requires
+is-held-requires c κs = search needs
+
 same-length : tie.Need-same-length
 same-length c = search needs
 
 returns-5 : tie.Need-returns-5
 returns-5 c =
-    let d = c .before .before in
-    (moves _ _ _ _ _ _ (omega arith) (omega arith) (omega arith) (d .before .before .if4 .left) (d .place-right .ensures .0), omega arith)
+    let d = c .before .before .before .before in
+    let held = c .is-held .ensures in
+    (moves _ _ _ _ _ _ (omega arith) (omega arith) (omega arith) (d .before .before .if4 .left) held (d .place-right .ensures .0), omega arith)
 
 pub fire-spec : {M : Type 1} → statement M
 fire-spec =
@@ -53,5 +57,6 @@ fire-spec =
     slice-read-if4
     returns-4
     place-right-requires
+    is-held-requires
     same-length
     returns-5)

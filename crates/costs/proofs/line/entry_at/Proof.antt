@@ -17,6 +17,9 @@ shared-slice-read-result c = search needs
 returns : tie.Need-returns
 returns c = rw (c .before .before .if1 .taken, c .before .plain-cell .ensures)
 
+first-of-requires : tie.Need-first-of-requires
+first-of-requires c κs = search needs
+
 lane-cell-requires : tie.Need-lane-cell-requires
 lane-cell-requires c κs = search needs
 
@@ -30,7 +33,10 @@ shared-slice-read-result-2 : tie.Need-shared-slice-read-result-2
 shared-slice-read-result-2 c = search needs
 
 returns-2 : tie.Need-returns-2
-returns-2 c = rw (c .before .before .if2 .taken, c .before .lane-cell .ensures)
+returns-2 c = rw (c .before .before .before .if2 .taken, c .before .lane-cell .ensures, c .before .before .first-of .ensures)
+
+second-of-requires : tie.Need-second-of-requires
+second-of-requires c κs = search needs
 
 lane-cell-requires-2 : tie.Need-lane-cell-requires-2
 lane-cell-requires-2 c κs = search needs
@@ -45,7 +51,9 @@ shared-slice-read-result-3 : tie.Need-shared-slice-read-result-3
 shared-slice-read-result-3 c = search needs
 
 returns-3 : tie.Need-returns-3
-returns-3 c = let two : c .before .before .before .before .before .args .gap ≡ 2 = omega arith in rw (two, c .before .lane-cell2 .ensures)
+returns-3 c =
+    let two : c .before .before .before .before .before .before .args .gap ≡ 2 = omega arith in
+    rw (two, c .before .lane-cell2 .ensures, c .before .before .second-of .ensures)
 
 pub entry-at-spec : {M : Type 1} → statement M
 entry-at-spec =
@@ -55,11 +63,13 @@ entry-at-spec =
     mul-result
     shared-slice-read-result
     returns
+    first-of-requires
     lane-cell-requires
     add-result
     mul-result-2
     shared-slice-read-result-2
     returns-2
+    second-of-requires
     lane-cell-requires-2
     add-result-2
     mul-result-3

@@ -14,7 +14,8 @@ add-len c = search needs
 first-state-requires : tie.Need-first-state-requires
 first-state-requires c κs =
     let start = c .before in
-    (start .pre .1, start .pre .2, omega (arith, start .pre .3), full-value (start .args .g) _ (start .pre .7), start .pre .4)
+    let fits = start .pre .0 in
+    (fits .some, fits .four, omega (arith, start .pre .2), full-value (start .args .side .g) _ (start .pre .4), fits .start)
 
 turn-of-requires : tie.Need-turn-of-requires
 turn-of-requires c κs = search needs
@@ -22,17 +23,20 @@ turn-of-requires c κs = search needs
 state-at-requires : tie.Need-state-at-requires
 state-at-requires c κs =
     let start = c .before .before .before in
-    (start .pre .1, start .pre .2, omega (arith, start .pre .3), full-value (start .args .g) _ (start .pre .7))
+    let fits = start .pre .0 in
+    (fits .some, fits .four, omega (arith, start .pre .2), full-value (start .args .side .g) _ (start .pre .4))
 
 lane-of-requires : tie.Need-lane-of-requires
 lane-of-requires c κs =
     let start = c .before .before .before .before in
-    (start .pre .1, start .pre .2, omega (arith, start .pre .3), full-value (start .args .g) _ (start .pre .7), omega arith)
+    let fits = start .pre .0 in
+    (fits .some, fits .four, omega (arith, start .pre .2), full-value (start .args .side .g) _ (start .pre .4), omega arith)
 
 lane-of-requires-2 : tie.Need-lane-of-requires-2
 lane-of-requires-2 c κs =
     let start = c .before .before .before .before .before in
-    (start .pre .1, start .pre .2, omega (arith, start .pre .3), full-value (start .args .g) _ (start .pre .7), omega arith)
+    let fits = start .pre .0 in
+    (fits .some, fits .four, omega (arith, start .pre .2), full-value (start .args .side .g) _ (start .pre .4), omega arith)
 
 add-pair-cost : tie.Need-add-pair-cost
 add-pair-cost c = search needs
@@ -45,7 +49,7 @@ returns c f k =
     let ends = c .before .before in
     let turn = ends .before .before in
     let args = turn .before .before .before .args in
-    line-costed (args .id) _ _ _ (args .start) _ f _ k (turn .before .first-state .ensures .0) (turn .turn-of .ensures .0) (ends .before .state-at .ensures .0)
+    line-costed (args .side) _ _ f _ k (turn .before .first-state .ensures .0) (turn .turn-of .ensures .0) (ends .before .state-at .ensures .0)
     (ends .lane-of .ensures .0) (c .before .lane-of2 .ensures .0) (c .pair-cost .ensures)
 
 pub line-cost-spec : {M : Type 1} → statement M

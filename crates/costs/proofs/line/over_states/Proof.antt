@@ -1,5 +1,5 @@
--- `over_states` meets its contract. The invariant: best is the least over the states below s.
-use mathlib.Core.Path.{_≡_, refl}
+-- `over_states` meets its contract. The invariant: best is the least over the states below q.
+use mathlib.Core.Path.{_≡_, refl, _∙_}
 use Prim.Native.Nat.{ℕ, _+_, _-_, _≤_}
 use native.Mathlib.Nat.{le-antisymm}
 use borrow.Author.Needs.{needs}
@@ -13,17 +13,20 @@ use Rattle.costs.proofs.line.over_states.Statement.{statement}
 use Rattle.costs.proofs.line.over_states.Tie as tie
 
 abbrev Inv-loop : tie.InvT-loop
-Inv-loop table g n j from top to before last old best₀ q₀ best q =
-    (q ≤ g)
+Inv-loop table controls n j from top to before last old states best₀ q₀ best q =
+    (q ≤ states)
     × ((ends : ℕ → TurnEnd) (f : Top) (s : ℕ) → LaneTo ends j before → LaneTo ends n last → to ≡ staysOf f + s
-    → best ≡ overStates ends table (control 0 from) top f (control n s) j q old)
+    → best ≡ overStates controls ends table (control 0 from) top f (control n s) j q old)
 
 abbrev μ-loop : tie.MeasureT-loop
-μ-loop table g n j from top to before last old best₀ q₀ best q = g - q
+μ-loop table controls n j from top to before last old states best₀ q₀ best q = states - q
 
 loop-holds : tie.Need-loop-holds Inv-loop μ-loop
 unfolding overStates
 loop-holds c = (search needs, λ ends f s p q k. refl)
+
+free-of-requires : tie.Need-free-of-requires Inv-loop μ-loop
+free-of-requires c κs = search needs
 
 entry-at-requires : tie.Need-entry-at-requires Inv-loop μ-loop
 entry-at-requires c κs = search needs
@@ -45,15 +48,17 @@ loop-less c = search needs
 
 loop-again : tie.Need-loop-again Inv-loop μ-loop
 loop-again c =
-    let pre = c .before .before .before .before .before .before .pre in (
+    let pre = c .before .before .before .before .before .before .before .pre in (
       search needs,
       λ ends f s p q k.
-          one-more ends _ _ _ _ f s _ _ k (pre .2) q _ _ _ _ _ _ _ _ (pre .3) p (c .before .before .entry-at .ensures) (c .before .entry-at2 .ensures)
-          (c .joined .ensures) (c .before .before .before .before .loop .inv .1 ends f s p q k),
+          one-more _ ends _ _ _ _ f s _ _ k (pre .2) q _ _ _ _ _ _ _ _ (pre .3) p
+          (c .before .before .entry-at .ensures) (c .before .entry-at2 .ensures) (c .joined .ensures)
+          (c .before .before .before .before .loop .inv .1 ends f s p q k),
     )
 
 returns : tie.Need-returns Inv-loop μ-loop
-returns c = rw (le-antisymm (c .before .loop .inv .0) (c .loop-test .left)) at (c .before .loop .inv .1)
+returns c =
+    rw (le-antisymm (c .before .loop .inv .0) (c .loop-test .left) ∙ c .before .before .free-of .ensures) at (c .before .loop .inv .1)
 
 pub over-states-spec : {M : Type 1} → statement M
 over-states-spec =
@@ -61,6 +66,7 @@ over-states-spec =
     (tie.spec
     Inv-loop
     μ-loop
+    free-of-requires
     loop-holds
     entry-at-requires
     sub-entry-at

@@ -13,13 +13,13 @@ use Rattle.costs.proofs.line.pair_cost.Statement.{statement}
 use Rattle.costs.proofs.line.pair_cost.Tie as tie
 
 abbrev Inv-loop : tie.InvT-loop
-Inv-loop table g n from top to a b last best₀ j₀ best j =
+Inv-loop table controls n from top to a b last best₀ j₀ best j =
     (j ≤ n + 1)
     × ((ends : ℕ → TurnEnd) (f : Top) (s : ℕ) → a ≡ endLane ends 0 → b ≡ endLane ends 1 → to ≡ staysOf f + s
-    → best ≡ overTurns ends table (control 0 from) top f (control n s) g j)
+    → best ≡ overTurns controls ends table (control 0 from) top f (control n s) j)
 
 abbrev μ-loop : tie.MeasureT-loop
-μ-loop table g n from top to a b last best₀ j₀ best j = n + 1 - j
+μ-loop table controls n from top to a b last best₀ j₀ best j = n + 1 - j
 
 lane-to-requires : tie.Need-lane-to-requires Inv-loop μ-loop
 lane-to-requires c κs = search needs
@@ -30,7 +30,7 @@ entry-at-requires c κs = search needs
 loop-holds : tie.Need-loop-holds Inv-loop μ-loop
 loop-holds c = (
   search needs,
-  λ ends f s p q k. none-gone ends _ _ _ _ f s _ _ k (c .before .before .before .pre .2) (c .before .lane-to .ensures .0 ends p q) _ _ (c .entry-at .ensures),
+  λ ends f s p q k. none-gone _ ends _ _ _ _ f s _ _ k (c .before .before .before .pre .2) (c .before .lane-to .ensures .0 ends p q) _ (c .entry-at .ensures),
 )
 
 lane-to-requires-2 : tie.Need-lane-to-requires-2 Inv-loop μ-loop
@@ -49,7 +49,7 @@ loop-again : tie.Need-loop-again Inv-loop μ-loop
 loop-again c = (
   search needs,
   λ ends f s p q k.
-      turn-more ends _ _ _ f _ _ _ _ _
+      turn-more _ ends _ _ _ f _ _ _ _
       (c .over-states .ensures ends f s (c .before .lane-to2 .ensures .0 ends p q) (c .before .before .before .before .before .lane-to .ensures .0 ends p q) k)
       (c .before .before .before .loop .inv .1 ends f s p q k),
 )

@@ -5,19 +5,19 @@ use native.Mathlib.Omega.{arith}
 use borrow.Author.Needs.{needs}
 use lib.ListN.{length}
 use Rattle.model.specs.declared.Top.the-variants.{Any}
-use Rattle.summary.specs.Cells.{second, First, Solved}
 use Rattle.costs.specs.Cost.{WhereNamed}
+use Rattle.costs.specs.Lanes.{FirstSolved}
 use Rattle.costs.proofs.Filled.{Filled, where-map, known-none, known-fewer, known-all}
 use Rattle.costs.proofs.slices.fill_ends.Statement.{statement}
 use Rattle.costs.proofs.slices.fill_ends.Tie as tie
 
 abbrev Inv-loop : tie.InvT-loop
-Inv-loop table₀ costs₀ named₀ g id start top th lanes o₀ table costs named o =
-    (o ≤ g) × (length table ≡ length table₀) × (length costs ≡ length costs₀) × (length named ≡ length named₀)
-    × Solved (First th top g) second table × Filled th id g start (o * 4) costs Any × WhereNamed top (Filled th id g start (o * 4) named)
+Inv-loop table₀ costs₀ named₀ side top th lanes g o₀ table costs named o =
+    (o ≤ side .g) × (length table ≡ length table₀) × (length costs ≡ length costs₀) × (length named ≡ length named₀)
+    × FirstSolved th top (side .g) table × Filled th side (o * 4) costs Any × WhereNamed top (Filled th side (o * 4) named)
 
 abbrev μ-loop : tie.MeasureT-loop
-μ-loop table₀ costs₀ named₀ g id start top th lanes o₀ table costs named o = g - o
+μ-loop table₀ costs₀ named₀ side top th lanes g o₀ table costs named o = side .g - o
 
 slice-aggregate-find-lanes : tie.Need-slice-aggregate-find-lanes Inv-loop μ-loop
 slice-aggregate-find-lanes c = search needs
@@ -28,7 +28,7 @@ find-lanes-requires c κs = search needs
 loop-holds : tie.Need-loop-holds Inv-loop μ-loop
 loop-holds c =
     let pre = c .before .before .before .before .before .before .pre in
-    (search needs, search needs, search needs, search needs, pre .0 .7, known-none, where-map (pre .1) (λ f room. known-none))
+    (search needs, search needs, search needs, search needs, pre .0 .6, known-none, where-map (pre .1) (λ f room. known-none))
 
 slice-aggregate-fill-from : tie.Need-slice-aggregate-fill-from Inv-loop μ-loop
 slice-aggregate-fill-from c = search needs
@@ -37,7 +37,7 @@ fill-from-requires : tie.Need-fill-from-requires Inv-loop μ-loop
 fill-from-requires c κs =
     let inv = c .before .before .before .before .before .loop .inv in
     let pre = c .before .before .before .before .before .before .before .before .before .before .before .before .pre in (
-      (search needs, search needs, pre .0 .2, pre .0 .3, pre .0 .4, search needs, pre .0 .5, pre .0 .6, inv .4, inv .5 .known),
+      (pre .0 .0, pre .0 .1, search needs, search needs, search needs, pre .0 .4, pre .0 .5, inv .4, inv .5 .known),
       ((search needs, c .before .before .before .before .before .before .before .find-lanes .ensures), (where-map (pre .1) (λ f room. inv .3 ∙ room), where-map (inv .6) (λ f r. r .known))),
     )
 
@@ -71,7 +71,7 @@ same-length-3 c = search needs
 returns : tie.Need-returns Inv-loop μ-loop
 returns c =
     let inv = c .before .loop .inv in
-    let four = c .before .before .before .before .before .before .before .before .pre .0 .3 in
+    let four = c .before .before .before .before .before .before .before .before .pre .0 .0 .four in
     (known-all four (c .loop-test .left) (inv .5), where-map (inv .6) (λ f. known-all four (c .loop-test .left)))
 
 pub fill-ends-spec : {M : Type 1} → statement M

@@ -15,7 +15,7 @@ fill-slice-requires : tie.Need-fill-slice-requires
 fill-slice-requires c κs =
     let pre = c .before .before .before .before .before .before .pre in
     let room = pre .1 .1 .named _ (c .before .enum-told2 .given .1) in
-    ((pre .0 .0, room, pre .0 .1, pre .0 .2, pre .0 .3, pre .0 .4, search needs), pre .1 .0)
+    ((pre .0 .0, pre .0 .1, room, search needs), pre .1 .0)
 
 returns : tie.Need-returns
 returns c = where-none (c .enum-told .given .1)

@@ -2,7 +2,7 @@
 use native.Mathlib.Nat.{div-one}
 use borrow.Author.Needs.{needs}
 use Rattle.record.specs.Reader.{parseSecond}
-use Rattle.record.specs.Held.{partOf, topPartOf}
+use Rattle.record.specs.Held.{partOf, topPartOf, marksPartOf}
 use Rattle.record.proofs.Parts.{got, ends, refuses}
 use Rattle.record.proofs.targets.read_second.Statement.{statement}
 use Rattle.record.proofs.targets.read_second.Tie as tie
@@ -43,7 +43,7 @@ returns-2 c =
 
 read-top-requires-2 : tie.Need-read-top-requires-2
 read-top-requires-2 c κs =
-    let a = c .before in ends topPartOf (a .before .before .before .read-top .ensures) (a .before .x2 .given .1)
+    let ta = c .before in ends topPartOf (ta .before .before .before .read-top .ensures) (ta .before .x2 .given .1)
 
 enum-known-x-3 : tie.Need-enum-known-x-3
 enum-known-x-3 c = search needs
@@ -54,32 +54,89 @@ enum-known-n-3 c = search needs
 returns-3 : tie.Need-returns-3
 unfolding parseSecond
 returns-3 c =
-    let a = c .before .before .before .before .before in
-    let map = a .before .before .before .before .before in
+    let ta = c .before .before .before .before .before in
+    let map = ta .before .before .before .before .before in
     refuses
     (rw (
       got partOf (map .before .before .before .field .ensures) (map .before .x .given .1),
       div-one,
-      got topPartOf (a .before .before .before .read-top .ensures) (a .before .x2 .given .1),
+      got topPartOf (ta .before .before .before .read-top .ensures) (ta .before .x2 .given .1),
       got topPartOf (c .before .before .before .read-top2 .ensures) (c .before .n3 .given .1),
     ))
+
+read-marks-requires : tie.Need-read-marks-requires
+read-marks-requires c κs =
+    let tb = c .before in ends topPartOf (tb .before .before .before .read-top2 .ensures) (tb .before .x3 .given .1)
+
+enum-known-x-4 : tie.Need-enum-known-x-4
+enum-known-x-4 c = search needs
+
+enum-known-n-4 : tie.Need-enum-known-n-4
+enum-known-n-4 c = search needs
 
 returns-4 : tie.Need-returns-4
 unfolding parseSecond
 returns-4 c =
-    let a = c .before .before .before .before .before in
-    let map = a .before .before .before .before .before in
-    let r = c .before .before .before .read-top2 .ensures in
-    let e = c .before .x3 .given .1 in
+    let tb = c .before .before .before .before .before in
+    let ta = tb .before .before .before .before .before in
+    let map = ta .before .before .before .before .before in
+    refuses
+    (rw (
+      got partOf (map .before .before .before .field .ensures) (map .before .x .given .1),
+      div-one,
+      got topPartOf (ta .before .before .before .read-top .ensures) (ta .before .x2 .given .1),
+      got topPartOf (tb .before .before .before .read-top2 .ensures) (tb .before .x3 .given .1),
+      got marksPartOf (c .before .before .before .read-marks .ensures) (c .before .n4 .given .1),
+    ))
+
+read-marks-requires-2 : tie.Need-read-marks-requires-2
+read-marks-requires-2 c κs =
+    let ha = c .before in ends marksPartOf (ha .before .before .before .read-marks .ensures) (ha .before .x4 .given .1)
+
+enum-known-x-5 : tie.Need-enum-known-x-5
+enum-known-x-5 c = search needs
+
+enum-known-n-5 : tie.Need-enum-known-n-5
+enum-known-n-5 c = search needs
+
+returns-5 : tie.Need-returns-5
+unfolding parseSecond
+returns-5 c =
+    let ha = c .before .before .before .before .before in
+    let tb = ha .before .before .before .before .before in
+    let ta = tb .before .before .before .before .before in
+    let map = ta .before .before .before .before .before in
+    refuses
+    (rw (
+      got partOf (map .before .before .before .field .ensures) (map .before .x .given .1),
+      div-one,
+      got topPartOf (ta .before .before .before .read-top .ensures) (ta .before .x2 .given .1),
+      got topPartOf (tb .before .before .before .read-top2 .ensures) (tb .before .x3 .given .1),
+      got marksPartOf (ha .before .before .before .read-marks .ensures) (ha .before .x4 .given .1),
+      got marksPartOf (c .before .before .before .read-marks2 .ensures) (c .before .n5 .given .1),
+    ))
+
+returns-6 : tie.Need-returns-6
+unfolding parseSecond
+returns-6 c =
+    let hb = c .before .before in
+    let ha = hb .before .before .before .before .before in
+    let tb = ha .before .before .before .before .before in
+    let ta = tb .before .before .before .before .before in
+    let map = ta .before .before .before .before .before in
+    let r = hb .before .before .before .read-marks2 .ensures in
+    let e = hb .before .x5 .given .1 in
     record {
       same =
           rw (
             got partOf (map .before .before .before .field .ensures) (map .before .x .given .1),
             div-one,
-            got topPartOf (a .before .before .before .read-top .ensures) (a .before .x2 .given .1),
-            got topPartOf r e,
+            got topPartOf (ta .before .before .before .read-top .ensures) (ta .before .x2 .given .1),
+            got topPartOf (tb .before .before .before .read-top2 .ensures) (tb .before .x3 .given .1),
+            got marksPartOf (ha .before .before .before .read-marks .ensures) (ha .before .x4 .given .1),
+            got marksPartOf r e,
           );
-      within = ends topPartOf r e;
+      within = ends marksPartOf r e;
     }
 
 pub read-second-spec : {M : Type 1} → statement M
@@ -98,4 +155,12 @@ read-second-spec =
     enum-known-x-3
     enum-known-n-3
     returns-3
-    returns-4)
+    read-marks-requires
+    enum-known-x-4
+    enum-known-n-4
+    returns-4
+    read-marks-requires-2
+    enum-known-x-5
+    enum-known-n-5
+    returns-5
+    returns-6)

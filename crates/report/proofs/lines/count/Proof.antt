@@ -5,7 +5,7 @@ use native.Mathlib.Nat.{le-antisymm}
 use native.Mathlib.Omega.{arith}
 use borrow.Author.Needs.{needs}
 use lib.ListN.{length}
-use Rattle.model.specs.Tables.{bitAt}
+use Rattle.model.specs.Bits.{bitAt}
 use Rattle.report.specs.Text.{countOf}
 use Rattle.report.proofs.Counting.{counted, counted-none}
 use Rattle.report.proofs.lines.count.Statement.{statement}

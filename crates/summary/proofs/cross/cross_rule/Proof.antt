@@ -1,18 +1,10 @@
--- `cross_rule` meets its contract: only a push has edges.
+-- `cross_rule` meets its contract: only a push has such edges.
 use native.Mathlib.Omega.{arith}
 use borrow.Author.Needs.{needs}
+use Rattle.summary.proofs.Fitting.{push-fits}
 use Rattle.summary.proofs.Relaxing.{unchanged}
 use Rattle.summary.proofs.cross.cross_rule.Statement.{statement}
 use Rattle.summary.proofs.cross.cross_rule.Tie as tie
-
-cast-p : tie.Need-cast-p
-cast-p c = search needs
-
-cast-top : tie.Need-cast-top
-cast-top c = search needs
-
-cast-h : tie.Need-cast-h
-cast-h c = search needs
 
 enum-told : tie.Need-enum-told
 enum-told c = search needs
@@ -23,16 +15,17 @@ enum-told-2 c = search needs
 enum-known-right : tie.Need-enum-known-right
 enum-known-right c = search needs
 
-cast-cross-pushes : tie.Need-cast-cross-pushes
-cast-cross-pushes c = search needs
+cast-t12 : tie.Need-cast-t12
+cast-t12 c = search needs
 
-cast-cross-pushes-2 : tie.Need-cast-cross-pushes-2
-cast-cross-pushes-2 c = search needs
+cast-t13 : tie.Need-cast-t13
+cast-t13 c = search needs
 
 cross-pushes-requires : tie.Need-cross-pushes-requires
 cross-pushes-requires c κs =
-    let pre = c .before .before .before .before .before .before .before .before .before .before .pre in
-    (omega (arith, rw (c .before .before .before .before .right .given .1) at (pre .0 .4 .symbols)), pre .1)
+    let pre = c .before .before .before .before .before .before .before .pre in
+    let right = rw (c .before .before .before .before .right .given .1) at (pre .0 .6) in
+    ((pre .0 .0, pre .0 .1, pre .0 .2, push-fits _ _ (pre .0 .3) (pre .0 .4) (pre .0 .5) right), pre .1)
 
 returns : tie.Need-returns
 returns c = (rw (c .enum-told .given .1) (unchanged _), omega arith)
@@ -44,23 +37,17 @@ same-length : tie.Need-same-length
 same-length c = search needs
 
 returns-3 : tie.Need-returns-3
-returns-3 c =
-    let right = c .before .before .before .before .before .before .before .right in
-    let cross-pushes = c .before .before .cross-pushes in
-    (rw (right .given .1) (cross-pushes .ensures .0), omega arith)
+returns-3 c = (rw (c .before .before .before .before .before .before .before .right .given .1) (c .before .before .cross-pushes .ensures .0), omega (arith, c .before .before .cross-pushes .ensures .1, c .before .before .before .before .before .before .before .before .before .before .pre .0 .2))
 
 pub cross-rule-spec : {M : Type 1} → statement M
 cross-rule-spec =
     tie.close
     (tie.spec
-    cast-p
-    cast-top
-    cast-h
     enum-told
     enum-told-2
     enum-known-right
-    cast-cross-pushes
-    cast-cross-pushes-2
+    cast-t12
+    cast-t13
     cross-pushes-requires
     returns
     returns-2

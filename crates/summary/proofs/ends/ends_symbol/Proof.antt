@@ -2,19 +2,23 @@
 use Prim.Native.Nat.{_+_, _-_}
 use native.Mathlib.Omega.{arith}
 use borrow.Author.Needs.{needs}
-use Rattle.summary.specs.Cells.{plain, lane, laneOf, first, rest}
+use Rattle.summary.specs.Cells.{plain, lane, laneOf, rest}
 use Rattle.summary.specs.Edges.{Row}
-use Rattle.summary.proofs.Loops.{Turning, starts, turns, ends}
 use Rattle.summary.proofs.Capped.{held, rows-in}
+use Rattle.summary.proofs.Loops.{Turning, starts, turns, ends}
+use Rattle.summary.proofs.Fitting.{ends-row}
 use Rattle.summary.proofs.ends.ends_symbol.Statement.{statement}
 use Rattle.summary.proofs.ends.ends_symbol.Tie as tie
 
 abbrev Inv-loop : tie.InvT-loop
-Inv-loop table₀ dests o i top changes₀ d₀ table changes d =
+Inv-loop table₀ o i top first dests changes₀ d₀ table changes d =
     Turning 1 (λ d. Row 0 (lane first o top d + laneOf o i) rest (plain i top d) 1) dests table₀ table changes d
 
 abbrev μ-loop : tie.MeasureT-loop
-μ-loop table₀ dests o i top changes₀ d₀ table changes d = dests - d
+μ-loop table₀ o i top first dests changes₀ d₀ table changes d = dests - d
+
+first-of-requires : tie.Need-first-of-requires Inv-loop μ-loop
+first-of-requires c κs = search needs
 
 loop-holds : tie.Need-loop-holds Inv-loop μ-loop
 loop-holds c = starts _ _ _ _
@@ -35,7 +39,12 @@ plain-cell-requires : tie.Need-plain-cell-requires Inv-loop μ-loop
 plain-cell-requires c κs = search needs
 
 row-requires : tie.Need-row-requires Inv-loop μ-loop
-row-requires c κs = (search needs, rows-in (held (c .before .before .before .before .loop .inv .relaxed) (c .before .before .before .before .before .before .pre .1)) (search needs))
+row-requires c κs =
+    let pre = c .before .before .before .before .before .before .before .pre in
+    let relaxed = c .before .before .before .before .loop .inv .relaxed in
+    let fits =
+    ends-row relaxed (pre .0 .0) (pre .0 .1) (pre .0 .2) (pre .0 .3) (pre .0 .4) (c .before .before .before .loop-test .taken) (c .before .before .before .before .before .first-of .ensures) (c .before .lane-cell .ensures) (c .plain-cell .ensures) in
+    (fits .0, rows-in (held relaxed (pre .1)) (fits .1))
 
 add-changes : tie.Need-add-changes Inv-loop μ-loop
 add-changes c = search needs
@@ -48,18 +57,16 @@ loop-less c = search needs
 
 loop-again : tie.Need-loop-again Inv-loop μ-loop
 loop-again c =
-    let loop = c .before .before .before .before .before .before .before .loop in
-    let loop-test = c .before .before .before .before .before .before .loop-test in
-    let lane-cell = c .before .before .before .before .lane-cell in
-    let plain-cell = c .before .before .before .plain-cell in
-    let row = c .before .before .row in
-    turns (loop .inv) (loop-test .taken) (rw (lane-cell .ensures, plain-cell .ensures) at (row .ensures .0)) (row .ensures .1)
+    turns (c .before .before .before .before .before .before .before .loop .inv) (c .before .before .before .before .before .before .loop-test .taken)
+    (rw (c .before .before .before .before .lane-cell .ensures, c .before .before .before .plain-cell .ensures) at (c .before .before .row .ensures .0)) (c .before .before .row .ensures .1)
 
 same-length : tie.Need-same-length Inv-loop μ-loop
 same-length c = search needs
 
 returns : tie.Need-returns Inv-loop μ-loop
-returns c = let done = ends (c .before .loop .inv) (c .loop-test .left) in (done .0, omega (arith, done .1))
+returns c =
+    let done = ends (c .before .loop .inv) (c .loop-test .left) in
+    (rw (c .before .before .first-of .ensures) at (done .0), omega (arith, done .1))
 
 pub ends-symbol-spec : {M : Type 1} → statement M
 ends-symbol-spec =
@@ -67,6 +74,7 @@ ends-symbol-spec =
     (tie.spec
     Inv-loop
     μ-loop
+    first-of-requires
     loop-holds
     lane-cell-requires
     mul-row

@@ -1,22 +1,26 @@
 -- `named_edges` meets its contract. The invariant: the states below q are relaxed.
 use Prim.Native.Nat.{_+_, _-_}
+use native.Mathlib.Omega.{arith}
 use borrow.Author.Needs.{needs}
 use Rattle.summary.specs.Cells.{plain, rest}
 use Rattle.summary.specs.Edges.{Row}
-use Rattle.summary.proofs.Loops.{Turning, starts, turns, ends}
 use Rattle.summary.proofs.Capped.{held, rows-in}
+use Rattle.summary.proofs.Loops.{Turning, starts, turns, ends}
 use Rattle.summary.proofs.ends.named_edges.Statement.{statement}
 use Rattle.summary.proofs.ends.named_edges.Tie as tie
 
 abbrev Inv-loop : tie.InvT-loop
-Inv-loop table₀ g symbol changes₀ q₀ table changes q =
-    Turning 1 (λ q. Row 0 (plain q symbol (8 + q)) rest rest 1) g table₀ table changes q
+Inv-loop table₀ controls symbol states changes₀ q₀ table changes q =
+    Turning 1 (λ q. Row 0 (plain q symbol (8 + q)) rest rest 1) states table₀ table changes q
 
 abbrev μ-loop : tie.MeasureT-loop
-μ-loop table₀ g symbol changes₀ q₀ table changes q = g - q
+μ-loop table₀ controls symbol states changes₀ q₀ table changes q = states - q
 
 cast-symbol : tie.Need-cast-symbol Inv-loop μ-loop
 cast-symbol c = search needs
+
+free-of-requires : tie.Need-free-of-requires Inv-loop μ-loop
+free-of-requires c κs = search needs
 
 loop-holds : tie.Need-loop-holds Inv-loop μ-loop
 loop-holds c = starts _ _ _ _
@@ -28,7 +32,9 @@ plain-cell-requires : tie.Need-plain-cell-requires Inv-loop μ-loop
 plain-cell-requires c κs = search needs
 
 row-requires : tie.Need-row-requires Inv-loop μ-loop
-row-requires c κs = (search needs, rows-in (held (c .before .before .before .loop .inv .relaxed) (c .before .before .before .before .before .before .pre .1)) (search needs))
+row-requires c κs =
+    let pre = c .before .before .before .before .before .before .before .pre in
+    (omega (arith, c .plain-cell .ensures, c .before .before .before .before .free-of .ensures, pre .0, c .before .before .before .loop .inv .relaxed .size), rows-in (held (c .before .before .before .loop .inv .relaxed) (pre .1)) (omega (arith, c .plain-cell .ensures, c .before .before .before .before .free-of .ensures, pre .0)))
 
 add-changes : tie.Need-add-changes Inv-loop μ-loop
 add-changes c = search needs
@@ -41,14 +47,13 @@ loop-less c = search needs
 
 loop-again : tie.Need-loop-again Inv-loop μ-loop
 loop-again c =
-    let row = c .before .before .row in
-    turns (c .before .before .before .before .before .before .loop .inv) (c .before .before .before .before .before .loop-test .taken) (rw (c .before .before .before .plain-cell .ensures) at (row .ensures .0)) (row .ensures .1)
+    turns (c .before .before .before .before .before .before .loop .inv) (c .before .before .before .before .before .loop-test .taken) (rw (c .before .before .before .plain-cell .ensures) at (c .before .before .row .ensures .0)) (c .before .before .row .ensures .1)
 
 same-length : tie.Need-same-length Inv-loop μ-loop
 same-length c = search needs
 
 returns : tie.Need-returns Inv-loop μ-loop
-returns c = ends (c .before .loop .inv) (c .loop-test .left) .0
+returns c = rw (c .before .before .free-of .ensures) at (ends (c .before .loop .inv) (c .loop-test .left) .0)
 
 pub named-edges-spec : {M : Type 1} → statement M
 named-edges-spec =
@@ -57,6 +62,7 @@ named-edges-spec =
     Inv-loop
     μ-loop
     cast-symbol
+    free-of-requires
     loop-holds
     add-plain-cell
     plain-cell-requires

@@ -1,20 +1,26 @@
--- `second_ends` meets its contract. The invariant: the symbols below s are relaxed.
+-- `second_ends` meets its contract. The invariant: the symbols below `top` are relaxed.
 use Prim.Native.Nat.{_*_, _-_}
 use native.Mathlib.Omega.{arith}
 use borrow.Author.Needs.{needs}
-use Rattle.summary.specs.Cells.{lane, first, second, rest}
+use Rattle.summary.specs.Cells.{lane, rest}
 use Rattle.summary.specs.Edges.{Row}
-use Rattle.summary.proofs.Loops.{Turning, starts, turns, ends}
 use Rattle.summary.proofs.Capped.{held, rows-in}
+use Rattle.summary.proofs.Loops.{Turning, starts, turns, ends}
 use Rattle.summary.proofs.ends.second_ends.Statement.{statement}
 use Rattle.summary.proofs.ends.second_ends.Tie as tie
 
 abbrev Inv-loop : tie.InvT-loop
-Inv-loop table₀ dests o i changes₀ top₀ table changes top =
-    Turning 192 (λ γ. Row 0 (lane second o γ 0) rest (lane first i γ 0) (dests * 16)) 17 table₀ table changes top
+Inv-loop table₀ shape o i first second changes₀ top₀ table changes top =
+    Turning 256 (λ γ. Row 0 (lane second o γ 0) rest (lane first i γ 0) (shape .dests * 16)) 17 table₀ table changes top
 
 abbrev μ-loop : tie.MeasureT-loop
-μ-loop table₀ dests o i changes₀ top₀ table changes top = 17 - top
+μ-loop table₀ shape o i first second changes₀ top₀ table changes top = 17 - top
+
+first-of-requires : tie.Need-first-of-requires Inv-loop μ-loop
+first-of-requires c κs = search needs
+
+second-of-requires : tie.Need-second-of-requires Inv-loop μ-loop
+second-of-requires c κs = search needs
 
 loop-holds : tie.Need-loop-holds Inv-loop μ-loop
 loop-holds c = starts _ _ _ _
@@ -29,7 +35,9 @@ mul-long-row : tie.Need-mul-long-row Inv-loop μ-loop
 mul-long-row c = search needs
 
 long-row-requires : tie.Need-long-row-requires Inv-loop μ-loop
-long-row-requires c κs = (search needs, rows-in (held (c .before .before .before .before .loop .inv .relaxed) (c .before .before .before .before .before .before .pre .1)) (search needs))
+long-row-requires c κs =
+    let pre = c .before .before .before .before .before .before .before .before .before .pre in
+    (omega (arith, c .before .lane-cell2 .ensures, c .before .before .lane-cell .ensures, c .before .before .before .before .before .before .second-of .ensures, c .before .before .before .before .before .before .before .first-of .ensures, pre .0, c .before .before .before .before .before .loop .inv .relaxed .size), rows-in (held (c .before .before .before .before .before .loop .inv .relaxed) (pre .1)) (omega (arith, c .before .lane-cell2 .ensures, c .before .before .lane-cell .ensures, c .before .before .before .before .before .before .second-of .ensures, c .before .before .before .before .before .before .before .first-of .ensures, pre .0)))
 
 add-changes : tie.Need-add-changes Inv-loop μ-loop
 add-changes c = search needs
@@ -42,19 +50,14 @@ loop-less c = search needs
 
 loop-again : tie.Need-loop-again Inv-loop μ-loop
 loop-again c =
-    let loop = c .before .before .before .before .before .before .before .loop in
-    let loop-test = c .before .before .before .before .before .before .loop-test in
-    let lane-cell = c .before .before .before .before .lane-cell in
-    let lane-cell2 = c .before .before .before .lane-cell2 in
-    let row = c .before .before .long-row in
-    turns (loop .inv) (loop-test .taken) (rw (lane-cell .ensures, lane-cell2 .ensures) at (row .ensures .0))
-    (omega arith)
+    turns (c .before .before .before .before .before .before .before .before .loop .inv) (c .before .before .before .before .before .before .before .loop-test .taken)
+    (rw (c .before .before .before .before .before .lane-cell .ensures, c .before .before .before .before .lane-cell2 .ensures) at (c .before .before .long-row .ensures .0)) (omega (arith, c .before .before .long-row .ensures .1, c .before .before .before .before .before .before .before .before .before .before .before .before .pre .0 .1))
 
 same-length : tie.Need-same-length Inv-loop μ-loop
 same-length c = search needs
 
 returns : tie.Need-returns Inv-loop μ-loop
-returns c = ends (c .before .loop .inv) (c .loop-test .left) .0
+returns c = rw (c .before .before .second-of .ensures, c .before .before .before .first-of .ensures) at (ends (c .before .loop .inv) (c .loop-test .left) .0)
 
 pub second-ends-spec : {M : Type 1} → statement M
 second-ends-spec =
@@ -62,6 +65,8 @@ second-ends-spec =
     (tie.spec
     Inv-loop
     μ-loop
+    first-of-requires
+    second-of-requires
     loop-holds
     lane-cell-requires
     lane-cell-requires-2

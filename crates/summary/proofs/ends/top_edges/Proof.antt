@@ -13,7 +13,7 @@ enum-known-top c = search needs
 named-edges-requires : tie.Need-named-edges-requires
 named-edges-requires c κs =
     let pre = c .before .before .before .before .before .pre in
-    ((pre .0 .0, pre .0 .1, rw (c .before .before .top .given .1) at (pre .0 .2)), pre .1)
+    ((pre .0 .0, pre .0 .1, pre .0 .2, rw (c .before .before .top .given .1) at (pre .0 .3)), pre .1)
 
 returns : tie.Need-returns
 returns c = rw (c .enum-told .given .1) (unchanged _)

@@ -1,28 +1,25 @@
 -- `plain_rule` meets its contract: each arm of the match relaxes the rows of its right side.
 use native.Mathlib.Omega.{arith}
 use borrow.Author.Needs.{needs}
-use Rattle.summary.proofs.Relaxing.{then}
 use Rattle.summary.proofs.Capped.{held, rows-in}
+use Rattle.summary.proofs.Fitting.{push-fits}
+use Rattle.summary.proofs.Relaxing.{then}
 use Rattle.summary.proofs.plain.plain_rule.Statement.{statement}
 use Rattle.summary.proofs.plain.plain_rule.Tie as tie
 
-cast-p : tie.Need-cast-p
-cast-p c = search needs
-
-cast-top : tie.Need-cast-top
-cast-top c = search needs
-
-cast-h : tie.Need-cast-h
-cast-h c = search needs
-
 enum-told : tie.Need-enum-told
 enum-told c = search needs
+
+gone-at-requires : tie.Need-gone-at-requires
+gone-at-requires c κs = search needs
 
 plain-cell-requires : tie.Need-plain-cell-requires
 plain-cell-requires c κs = search needs
 
 row-requires : tie.Need-row-requires
-row-requires c κs = (search needs, rows-in (c .before .before .before .before .before .before .before .before .pre .1) (search needs))
+row-requires c κs =
+    let pre = c .before .before .before .before .before .before .pre in
+    (search needs, rows-in (pre .1) (omega (arith, c .plain-cell .ensures, c .before .gone-at .ensures, pre .0)))
 
 enum-known-right : tie.Need-enum-known-right
 enum-known-right c = search needs
@@ -35,96 +32,84 @@ cast-plain-cell c = search needs
 
 plain-cell-requires-3 : tie.Need-plain-cell-requires-3
 plain-cell-requires-3 c κs =
-    let pre = c .before .before .before .before .before .before .before .before .before .before .pre in
-    let right = c .before .before .before .before .right in
-    omega (arith, rw (right .given .1) at (pre .0 .4 .symbols))
+    let pre = c .before .before .before .before .before .before .before .pre in
+    let right = rw (c .before .before .before .before .right .given .1) at (pre .0 .5) in
+    (omega (arith, pre .0 .4, pre .0 .1), omega (arith, right), omega arith)
 
 usual-row-requires : tie.Need-usual-row-requires
 usual-row-requires c κs =
-    let pre = c .before .before .before .before .before .before .before .before .before .before .before .pre in
-    let right = rw (c .before .before .before .before .before .right .given .1) at (pre .0 .4 .symbols) in
-    (search needs, rows-in (pre .1) (omega (arith, right)))
+    let pre = c .before .before .before .before .before .before .before .before .pre in
+    let right = rw (c .before .before .before .before .before .right .given .1) at (pre .0 .5) in
+    (search needs, rows-in (pre .1) (omega (arith, c .plain-cell3 .ensures, c .before .before .plain-cell2 .ensures, right, pre .0)))
 
 enum-known-right-2 : tie.Need-enum-known-right-2
 enum-known-right-2 c = search needs
 
-cast-plain-pushes : tie.Need-cast-plain-pushes
-cast-plain-pushes c = search needs
+cast-usual-row : tie.Need-cast-usual-row
+cast-usual-row c = search needs
 
-cast-plain-pushes-2 : tie.Need-cast-plain-pushes-2
-cast-plain-pushes-2 c = search needs
+cast-usual-row-2 : tie.Need-cast-usual-row-2
+cast-usual-row-2 c = search needs
 
 plain-pushes-requires : tie.Need-plain-pushes-requires
 plain-pushes-requires c κs =
-    let pre = c .before .before .before .before .before .before .before .before .before .before .pre in
-    (omega (arith, rw (c .before .before .before .before .right2 .given .1) at (pre .0 .4 .symbols)), pre .1)
+    let pre = c .before .before .before .before .before .before .before .pre in
+    let right = rw (c .before .before .before .before .right2 .given .1) at (pre .0 .5) in
+    ((pre .0 .0, pre .0 .1, push-fits _ _ (pre .0 .2) (pre .0 .3) (pre .0 .4) right), pre .1)
 
 plain-cell-requires-4 : tie.Need-plain-cell-requires-4
 plain-cell-requires-4 c κs = search needs
 
-cast-plain-cell-2 : tie.Need-cast-plain-cell-2
-cast-plain-cell-2 c = search needs
-
 plain-cell-requires-5 : tie.Need-plain-cell-requires-5
 plain-cell-requires-5 c κs =
-    let pre = c .before .before .before .before .before .before .before .before .before .before .before .before .before .before .before .before .pre in
-    let right2 = c .before .before .before .before .before .before .before .before .before .before .right2 in
-    omega (arith, rw (right2 .given .1) at (pre .0 .4 .symbols))
+    let pre = c .before .before .before .before .before .before .before .before .before .before .before .before .pre in
+    let right = rw (c .before .before .before .before .before .before .before .before .before .right2 .given .1) at (pre .0 .5) in
+    (omega (arith, pre .0 .4, pre .0 .1), omega (arith, right .0), omega arith)
 
 sub-usual-row : tie.Need-sub-usual-row
 sub-usual-row c = search needs
 
 usual-row-requires-2 : tie.Need-usual-row-requires-2
 usual-row-requires-2 c κs =
-    let pre = c .before .before .before .before .before .before .before .before .before .before .before .before .before .before .before .before .before .pre in
-    let right = rw (c .before .before .before .before .before .before .before .before .before .before .before .right2 .given .1) at (pre .0 .4 .symbols) in
-    (search needs, rows-in (held (c .before .before .before .before .before .before .plain-pushes .ensures .0) (pre .1)) (omega (arith, right)))
+    let pre = c .before .before .before .before .before .before .before .before .before .before .before .before .before .before .pre in
+    let right = rw (c .before .before .before .before .before .before .before .before .before .before .before .right2 .given .1) at (pre .0 .5) in
+    let pushes = c .before .before .before .before .before .before .plain-pushes .ensures .0 in
+    (search needs, rows-in (held pushes (pre .1)) (omega (arith, c .before .plain-cell5 .ensures, c .before .before .plain-cell4 .ensures, right .0, pre .0)))
 
 add-result : tie.Need-add-result
-add-result c = let pre = c .before .before .before .before .before .before .before .before .before .before .before .before .before .before .before .before .before .before .before .before .pre in omega (arith, pre .0 .2, pre .0 .3)
+add-result c = search needs
 
 same-length : tie.Need-same-length
 same-length c = search needs
 
 returns : tie.Need-returns
-returns c =
-    let enum-told = c .before .before .before .before .before .enum-told in
-    let plain-cell = c .before .before .before .plain-cell in
-    let row = c .before .before .row in
-    (rw (enum-told .given .1) (rw (plain-cell .ensures) at (row .ensures .0)), omega arith)
+returns c = (rw (c .before .before .before .before .before .before .enum-told .given .1) (rw (c .before .before .before .plain-cell .ensures, c .before .before .before .before .gone-at .ensures .0) at (c .before .before .row .ensures .0)), omega (arith, c .before .before .row .ensures .1))
 
 same-length-2 : tie.Need-same-length-2
 same-length-2 c = search needs
 
 returns-2 : tie.Need-returns-2
 returns-2 c =
-    let right = c .before .before .before .before .before .before .before .before .right in
-    let plain-cell2 = c .before .before .before .before .before .plain-cell2 in
-    let plain-cell3 = c .before .before .before .plain-cell3 in
-    let row2 = c .before .before .usual-row in
-    (rw (right .given .1) (rw (plain-cell2 .ensures, plain-cell3 .ensures) at (row2 .ensures .0)), omega (arith, c .before .before .before .before .before .before .before .before .before .before .before .before .before .before .pre .0 .2))
+    let row = c .before .before .usual-row .ensures in
+    (rw (c .before .before .before .before .before .before .before .before .right .given .1) (rw (c .before .before .before .before .before .plain-cell2 .ensures, c .before .before .before .plain-cell3 .ensures) at (row .0)), omega (arith, row .1, c .before .before .before .before .before .before .before .before .before .before .before .pre .0 .1))
 
 same-length-3 : tie.Need-same-length-3
 same-length-3 c = search needs
 
 returns-3 : tie.Need-returns-3
 returns-3 c =
-    let pre = c .before .before .before .before .before .before .before .before .before .before .before .before .before .before .before .before .before .before .before .before .pre in
-    let right2 = c .before .before .before .before .before .before .before .before .before .before .before .before .before .before .right2 in
-    let plain-pushes = c .before .before .before .before .before .before .before .before .before .plain-pushes in
-    let plain-cell4 = c .before .before .before .before .before .plain-cell4 in
-    let plain-cell5 = c .before .before .before .plain-cell5 in
-    let row3 = c .before .before .usual-row2 in
-    (rw (right2 .given .1) (then (plain-pushes .ensures .0) (rw (plain-cell4 .ensures, plain-cell5 .ensures) at (row3 .ensures .0))), omega (arith, pre .0 .2, pre .0 .3))
+    let pushes = c .before .before .before .before .before .before .before .before .before .plain-pushes .ensures in
+    let row = c .before .before .usual-row2 .ensures in (
+      rw (c .before .before .before .before .before .before .before .before .before .before .before .before .before .before .right2 .given .1) (then (pushes .0) (rw (c .before .before .before .before .before .plain-cell4 .ensures, c .before .before .before .before .plain-cell5 .ensures) at (row .0))),
+      omega (arith, pushes .1, row .1, c .before .before .before .before .before .before .before .before .before .before .before .before .before .before .before .before .before .pre .0 .1),
+    )
 
 pub plain-rule-spec : {M : Type 1} → statement M
 plain-rule-spec =
     tie.close
     (tie.spec
-    cast-p
-    cast-top
-    cast-h
     enum-told
+    gone-at-requires
     plain-cell-requires
     row-requires
     enum-known-right
@@ -133,11 +118,10 @@ plain-rule-spec =
     plain-cell-requires-3
     usual-row-requires
     enum-known-right-2
-    cast-plain-pushes
-    cast-plain-pushes-2
+    cast-usual-row
+    cast-usual-row-2
     plain-pushes-requires
     plain-cell-requires-4
-    cast-plain-cell-2
     plain-cell-requires-5
     sub-usual-row
     usual-row-requires-2

@@ -1,31 +1,25 @@
--- `step` meets its contract: the turn number decides by its two tests, its parity picks the thread, and `fire` makes
+-- `step` meets its contract: `turn_fault` decides by the turn number, its parity picks the thread, and `fire` makes
 -- that thread's step.
 use mathlib.Core.Path.{refl}
 use native.Mathlib.Omega.{arith}
 use borrow.Author.Needs.{needs}
 use Rattle.model.proofs.Owners.{even-turn, odd-turn}
 use Rattle.model.specs.declared.ThreadId.the-variants.{A, B}
-use Rattle.walk.proofs.Stepping.{falls, late, comes}
+use Rattle.walk.proofs.Stepping.{refuses, comes}
 use Rattle.walk.proofs.Walk.step.Statement.{statement}
 use Rattle.walk.proofs.Walk.step.Tie as tie
 
-cast-turns : tie.Need-cast-turns
-cast-turns c = search needs
-
-mul-turns : tie.Need-mul-turns
-mul-turns c = search needs
+turn-fault-requires : tie.Need-turn-fault-requires
+turn-fault-requires c κs = search needs
 
 returns : tie.Need-returns
-returns c = (falls _ _ _ (omega arith), search needs)
-
-returns-2 : tie.Need-returns-2
-returns-2 c = (late _ _ _ (omega arith) (omega arith), search needs)
+returns c = (refuses _ _ _ _ _ (c .before .turn-fault .ensures) (c .if1 .taken), search needs)
 
 fire-requires : tie.Need-fire-requires
 fire-requires c κs = search needs
 
-enum-known-shared : tie.Need-enum-known-shared
-enum-known-shared c = search needs
+enum-known-held : tie.Need-enum-known-held
+enum-known-held c = search needs
 
 enum-told : tie.Need-enum-told
 enum-told c = search needs
@@ -33,8 +27,8 @@ enum-told c = search needs
 fire-requires-2 : tie.Need-fire-requires-2
 fire-requires-2 c κs = search needs
 
-enum-known-shared-2 : tie.Need-enum-known-shared-2
-enum-known-shared-2 c = search needs
+enum-known-held-2 : tie.Need-enum-known-held-2
+enum-known-held-2 c = search needs
 
 enum-told-2 : tie.Need-enum-told-2
 enum-told-2 c = search needs
@@ -42,58 +36,56 @@ enum-told-2 c = search needs
 same-length : tie.Need-same-length
 same-length c = search needs
 
-returns-3 : tie.Need-returns-3
-returns-3 c =
+returns-2 : tie.Need-returns-2
+returns-2 c =
     let d = c .before .before .before .before .before in
-    let left = rw (c .before .shared .given .1) at (d .fire .ensures) in
-    (comes _ _ _ A (even-turn _ (d .before .before .if3 .taken)) (omega arith) (omega arith) (left .0), (left .1, omega arith))
+    let left = rw (c .before .held .given .1) at (d .fire .ensures) in
+    (comes _ _ _ _ _ A (even-turn _ (d .before .before .if2 .taken)) (d .before .before .before .before .turn-fault .ensures) (d .before .before .before .if1 .left) (left .0), (left .1, omega arith))
 
 same-length-2 : tie.Need-same-length-2
 same-length-2 c = search needs
 
-returns-4 : tie.Need-returns-4
-returns-4 c =
+returns-3 : tie.Need-returns-3
+returns-3 c =
     let d = c .before .before .before .before in
     let left = rw (c .enum-told .given .1) at (d .fire .ensures) in
-    (comes _ _ _ A (even-turn _ (d .before .before .if3 .taken)) (omega arith) (omega arith) (left .0), (left .1, refl))
+    (comes _ _ _ _ _ A (even-turn _ (d .before .before .if2 .taken)) (d .before .before .before .before .turn-fault .ensures) (d .before .before .before .if1 .left) (left .0), (left .1, refl))
 
 same-length-3 : tie.Need-same-length-3
 same-length-3 c = search needs
 
-returns-5 : tie.Need-returns-5
-returns-5 c =
+returns-4 : tie.Need-returns-4
+returns-4 c =
     let d = c .before .before .before .before .before in
-    let left = rw (c .before .shared2 .given .1) at (d .fire2 .ensures) in
-    (comes _ _ _ B (odd-turn _ (d .before .before .if3 .left)) (omega arith) (omega arith) (left .0), (omega arith, left .1))
+    let left = rw (c .before .held2 .given .1) at (d .fire2 .ensures) in
+    (comes _ _ _ _ _ B (odd-turn _ (d .before .before .if2 .left)) (d .before .before .before .before .turn-fault .ensures) (d .before .before .before .if1 .left) (left .0), (omega arith, left .1))
 
 same-length-4 : tie.Need-same-length-4
 same-length-4 c = search needs
 
-returns-6 : tie.Need-returns-6
-returns-6 c =
+returns-5 : tie.Need-returns-5
+returns-5 c =
     let d = c .before .before .before .before in
     let left = rw (c .enum-told2 .given .1) at (d .fire2 .ensures) in
-    (comes _ _ _ B (odd-turn _ (d .before .before .if3 .left)) (omega arith) (omega arith) (left .0), (refl, left .1))
+    (comes _ _ _ _ _ B (odd-turn _ (d .before .before .if2 .left)) (d .before .before .before .before .turn-fault .ensures) (d .before .before .before .if1 .left) (left .0), (refl, left .1))
 
 pub step-spec : {M : Type 1} → statement M
 step-spec =
     tie.close
     (tie.spec
-    cast-turns
-    mul-turns
+    turn-fault-requires
     returns
-    returns-2
     fire-requires
-    enum-known-shared
+    enum-known-held
     enum-told
     fire-requires-2
-    enum-known-shared-2
+    enum-known-held-2
     enum-told-2
     same-length
-    returns-3
+    returns-2
     same-length-2
-    returns-4
+    returns-3
     same-length-3
-    returns-5
+    returns-4
     same-length-4
-    returns-6)
+    returns-5)

@@ -49,6 +49,12 @@ cast-plan c = search needs
 slice-write-plan : tie.Need-slice-write-plan
 slice-write-plan c = search needs
 
+cast-plan-2 : tie.Need-cast-plan-2
+cast-plan-2 c = search needs
+
+slice-write-plan-2 : tie.Need-slice-write-plan-2
+slice-write-plan-2 c = simp length-set (search needs)
+
 same-length : tie.Need-same-length
 same-length c = simp length-set (search needs)
 
@@ -57,7 +63,7 @@ returns c =
     let first = c .before .before .before .before .before .before .before .before .before in
     let turns = first .before .before .before in
     let a = turns .before .before .before .args in
-    head-stored (a .id) (a .plan .now) (a .g) (digits (a .g) (2 * suc (a .n)) (a .v)) (a .count) _
+    head-stored (a .id) (a .plan .now) (a .g) (digits (a .g) (2 * suc (a .n)) (a .v)) (a .count) (a .controls) _
     (turns .before .turn-of .ensures .0) (turns .turn-of2 .ensures .0) (first .before .state-byte .ensures)
     (c .before .before .before .before .before .state-byte2 .ensures) (c .before .before .before .before .state-byte3 .ensures)
     (c .before .before .before .state-byte4 .ensures) (first .put-three .ensures) (c .before .before .put-three2 .ensures)
@@ -80,5 +86,7 @@ put-head-spec =
     put-three-requires-2
     cast-plan
     slice-write-plan
+    cast-plan-2
+    slice-write-plan-2
     same-length
     returns)

@@ -26,7 +26,7 @@ returns-2 c ends inside o i =
 close-second-requires : tie.Need-close-second-requires
 close-second-requires c κs =
     let p = c .before .before .before .before .before .before .before .before .before .before .before .before .pre in
-    (search needs, p .1, p .3, p .4, p .5, p .6, c .before .before .before .before .close-first .ensures .0)
+    (search needs, p .1, p .2, p .4, p .5, p .6, p .7, c .before .before .before .before .close-first .ensures .0)
 
 same-length-3 : tie.Need-same-length-3
 same-length-3 c = search needs
@@ -35,7 +35,7 @@ returns-3 : tie.Need-returns-3
 returns-3 c ends inside o i =
     let later = c .before .before .before .before in
     let earlier = later .before .before .before .before .before in
-    let last = two (earlier .before .before .before .before .before .before .pre .2) (earlier .if1 .left) (later .if2 .left) in
+    let last = two (earlier .before .before .before .before .before .before .pre .3) (earlier .if1 .left) (later .if2 .left) in
     rw last (c .before .before .close-second .ensures .1 ends (rw last at inside) o i)
 
 pub solve-spec : {M : Type 1} → statement M

@@ -19,13 +19,14 @@ solve-requires c κs =
     let c7 = c .before .before .before .before .before .before .before in
     let c11 = c7 .before .before .before .before in
     let p = c11 .pre in
-    let e = c7 .make .ensures .0 .ends 0 (omega arith) in (
+    let e = c7 .make .ensures .0 .ends 0 (omega arith) in
+    let states = c7 .make .ensures .1 .1 .0 in (
       search needs,
+      p .1 .0,
       p .1 .1,
       p .1 .2,
-      omega (arith, e .0, c .before .before .before .byte .ensures .0),
-      omega
-          (arith, e .1, c .before .byte2 .ensures .0),
+      omega (arith, e .0, states, c .before .before .before .byte .ensures .0),
+      omega (arith, e .1, states, c .before .byte2 .ensures .0),
       p .1 .4,
       p .1 .5,
     )
@@ -43,7 +44,7 @@ returns c =
     let c10 = c6 .before .before .before .before in
     let e = c10 .make .ensures in
     record {
-      size = search needs;
+      size = rw (e .1 .0 .controls, e .1 .1 .0) (search needs);
       range = e .0;
       planned = e .1 .0;
       states = e .1 .1 .0;

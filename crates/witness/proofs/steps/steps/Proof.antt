@@ -1,77 +1,57 @@
--- `steps` meets its contract: what is written for the pair of the first symbol and the floor is a run along the line.
-use Prim.Native.Nat.{suc, _*_}
+-- `steps` meets its contract: where no rule is held a thread has only its states for controls, and the smaller table has room for them.
+use mathlib.Core.Bool.{true}
+use mathlib.Core.Path.{_≡_, sym, _∙_}
 use native.Mathlib.Omega.{arith}
 use borrow.Author.Needs.{needs}
-use Rattle.model.proofs.Positions.{length-digits, digits-states}
-use Rattle.witness.proofs.Threads.{setting, ready, stands, splits, written}
+use Rattle.model.specs.Bits.{allZero}
+use Rattle.summary.proofs.Numbers.{controls-range}
 use Rattle.witness.proofs.steps.steps.Statement.{statement}
 use Rattle.witness.proofs.steps.steps.Tie as tie
 
-slice-aggregate-prepare : tie.Need-slice-aggregate-prepare
-slice-aggregate-prepare c = search needs
+all-zero-requires : tie.Need-all-zero-requires
+all-zero-requires c κs = search needs
 
-slice-aggregate-prepare-2 : tie.Need-slice-aggregate-prepare-2
-slice-aggregate-prepare-2 c = search needs
+slice-aggregate-steps-in : tie.Need-slice-aggregate-steps-in
+slice-aggregate-steps-in c = search needs
 
-prepare-requires : tie.Need-prepare-requires
-prepare-requires c κs =
-    let p = c .before .before .before .pre .0 in
-    ((search needs, search needs), (p .0, p .1, p .2, p .4, p .5, p .6))
+steps-in-requires : tie.Need-steps-in-requires
+steps-in-requires c κs =
+    let s = c .before .before .before .before .before .before in
+    let p = s .pre in
+    let free : allZero (s .args .th .held) ≡ true = sym (c .before .before .before .all-zero .ensures) ∙ c .before .before .if1 .taken in
+    (p .0, (p .1, rw free (omega (arith, p .0 .1))))
 
-cast-start-goal : tie.Need-cast-start-goal
-cast-start-goal c = search needs
+slice-aggregate-steps-in-2 : tie.Need-slice-aggregate-steps-in-2
+slice-aggregate-steps-in-2 c = search needs
 
-start-goal-requires : tie.Need-start-goal-requires
-start-goal-requires c κs = search needs
-
-slice-aggregate-pair : tie.Need-slice-aggregate-pair
-slice-aggregate-pair c = search needs
-
-slice-aggregate-pair-2 : tie.Need-slice-aggregate-pair-2
-slice-aggregate-pair-2 c = search needs
-
-pair-requires : tie.Need-pair-requires
-pair-requires c κs =
-    let c7 = c .before .before .before .before .before .before .before in
-    let c11 = c7 .before .before .before .before in
-    let a = c11 .args in
-    let p = c11 .pre in
-    let S = c .before .before .before .start-goal .ensures in
-    let line = digits-states (a .g) (2 * suc (a .n)) (a .v) (p .0 .4) in
-    let r = ready (c7 .prepare .ensures) (p .0 .2) (p .0 .6) (p .0 .5) (length-digits (a .g) (2 * suc (a .n)) (a .v)) line (a .start)
-    (S .first) (S .last) in
-    (rw (S .goal) r, (omega arith, p .1 .1, omega (arith, p .1 .2)))
+steps-in-requires-2 : tie.Need-steps-in-requires-2
+steps-in-requires-2 c κs =
+    let s = c .before .before .before .before .before .before in
+    let p = s .pre in
+    (p .0, (p .1, omega (arith, controls-range (s .args .th) (s .args .g) .1, p .0 .1)))
 
 same-length : tie.Need-same-length
 same-length c = search needs
 
 returns : tie.Need-returns
-returns c =
-    let c6 = c .before .before .before .before .before .before in
-    let c10 = c6 .before .before .before .before in
-    let c14 = c10 .before .before .before .before in
-    let a = c14 .args in
-    let p = c14 .pre in
-    let S = c6 .start-goal .ensures in
-    let K = c10 .prepare .ensures in
-    let size = length-digits (a .g) (2 * suc (a .n)) (a .v) in
-    let line = digits-states (a .g) (2 * suc (a .n)) (a .v) (p .0 .4) in
-    written K (p .0 .2) (p .0 .6) (p .0 .5) size line (a .start) (S .first) (S .last)
-    (rw (S .goal) at (c .before .before .pair .ensures) (setting K (p .0 .2) (p .0 .6) (p .0 .5) size line) _
-    (stands K (p .0 .2) (p .0 .6) (p .0 .5) size line (a .start) (S .first) (S .last))
-    (splits K (p .0 .2) (p .0 .6) (p .0 .5) size line (a .start) (S .first) (S .last) (p .1 .1) (p .1 .0)))
+returns c = c .before .before .before .steps-in .ensures
+
+same-length-2 : tie.Need-same-length-2
+same-length-2 c = search needs
+
+returns-2 : tie.Need-returns-2
+returns-2 c = c .before .before .before .steps-in2 .ensures
 
 pub steps-spec : {M : Type 1} → statement M
 steps-spec =
     tie.close
     (tie.spec
-    slice-aggregate-prepare
-    slice-aggregate-prepare-2
-    prepare-requires
-    cast-start-goal
-    start-goal-requires
-    slice-aggregate-pair
-    slice-aggregate-pair-2
-    pair-requires
+    all-zero-requires
+    slice-aggregate-steps-in
+    steps-in-requires
+    slice-aggregate-steps-in-2
+    steps-in-requires-2
     same-length
-    returns)
+    returns
+    same-length-2
+    returns-2)

@@ -9,7 +9,7 @@ above-requires : tie.Need-above-requires
 above-requires c κs = search needs
 
 returns : tie.Need-returns
-returns c = let p = rw (c .if1 .taken) at (c .before .above .ensures) in Splits.above (p .0) (p .1)
+returns c = Splits.above (rw (c .if1 .taken) at (c .before .above .ensures))
 
 middle-requires : tie.Need-middle-requires
 middle-requires c κs = search needs

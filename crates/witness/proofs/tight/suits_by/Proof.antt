@@ -9,7 +9,7 @@ enum-told : tie.Need-enum-told
 enum-told c = search needs
 
 removes-requires : tie.Need-removes-requires
-removes-requires c κs = search needs
+removes-requires c κs = let p = c .before .before .before .before .pre in omega (arith, p .1 .2, p .0 .range .controls .1)
 
 enum-known-right : tie.Need-enum-known-right
 enum-known-right c = search needs

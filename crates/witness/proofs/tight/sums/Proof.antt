@@ -27,8 +27,9 @@ rest-at-requires c κs = search needs
 
 entry-of-requires-2 : tie.Need-entry-of-requires-2
 entry-of-requires-2 c κs =
-    let p = c .before .before .before .before .before .before .before .before .pre in
-    rest-ready (p .0) _ (p .1 .0) (p .1 .2) (c .rest-at .ensures)
+    let c4 = c .before .before .before .before in
+    let p = c4 .before .before .before .before .pre in
+    rest-ready (p .0) _ (p .1 .0) (p .1 .2) (rw (← c4 .before .byte .ensures .0) (c4 .if1 .left)) (c .rest-at .ensures)
 
 returns-3 : tie.Need-returns-3
 returns-3 c =

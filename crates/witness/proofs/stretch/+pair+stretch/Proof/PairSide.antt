@@ -32,7 +32,7 @@ pub returns : (t : ℕ) → pair-lts.Need-returns (pair-calls t) (pair-at t) pai
 returns t c =
     let p = rw (c .before .before .before .before .if1 .taken) at
     (c .before .before .before .before .before .above .ensures) in
-    λ w d s e. kept w s (p .0) (c .before .before .stretch .ensures w d s (p .1))
+    λ w d s e. kept w s (p .0) (p .1) (c .before .before .stretch .ensures w d s (p .2))
 
 pub middle-requires : (t : ℕ) → pair-lts.Need-middle-requires (pair-calls t) (pair-at t) pair.Post
 middle-requires t c κs = search needs
@@ -72,8 +72,8 @@ add-stretch t c =
 pub stretch-requires-3 : (t : ℕ) → pair-lts.Need-stretch-requires-3 (pair-calls t) (pair-at t) pair.Post
 stretch-requires-3 t c κs =
     let p = c .before .before .before .before .before .before .before .before .before .before .before .before .before .before .before .pre in
-    let R = rest-ready (p .1 .0) _ (p .1 .1 .0) (c .before .before .before .before .before .before .before .before .if2 .taken)
-    (c .before .rest-at .ensures) in
+    let c8 = c .before .before .before .before .before .before .before .before in
+    let R = rest-ready (p .1 .0) _ (p .1 .1 .0) (c8 .if2 .taken) (c8 .before .middle .ensures .0 (c8 .if2 .taken) .0) (c .before .rest-at .ensures) in
     let l = part t (c .before .before .before .before .before .before) in
     (omega (arith, p .0, R .fits .until), (R, (omega arith, omega arith)))
 

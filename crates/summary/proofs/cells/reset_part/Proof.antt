@@ -1,23 +1,20 @@
--- `reset` meets its contract. The invariant: the cells from `from` up to i are blank, and those below are kept.
+-- `reset_part` meets its contract. The invariant: the cells from `from` up to i are blank, and those below are kept.
 use Prim.Native.Nat.{_≤_, _-_}
-use native.Mathlib.Nat.{le-antisymm}
+use native.Mathlib.Nat.{le-antisymm, le-trans}
 use borrow.Author.Needs.{needs}
 use Rattle.summary.specs.Cells.{Reset}
-use Rattle.summary.proofs.Resets.{reset-start, reset-next}
-use Rattle.summary.proofs.cells.reset.Statement.{statement}
-use Rattle.summary.proofs.cells.reset.Tie as tie
+use Rattle.summary.proofs.Resets.{reset-start, reset-next, blank-part}
+use Rattle.summary.proofs.cells.reset_part.Statement.{statement}
+use Rattle.summary.proofs.cells.reset_part.Tie as tie
 
 abbrev Inv-loop : tie.InvT-loop
-Inv-loop table₀ from to i₀ table i = (from ≤ i) × (i ≤ to) × Reset from i table₀ table
+Inv-loop table₀ controls from to i₀ table i = (from ≤ i) × (i ≤ to) × Reset controls from i table₀ table
 
 abbrev μ-loop : tie.MeasureT-loop
-μ-loop table₀ from to i₀ table i = to - i
+μ-loop table₀ controls from to i₀ table i = to - i
 
 loop-holds : tie.Need-loop-holds Inv-loop μ-loop
-loop-holds c = (search needs, search needs, reset-start _ _)
-
-blank-at-requires : tie.Need-blank-at-requires Inv-loop μ-loop
-blank-at-requires c κs = search needs
+loop-holds c = (search needs, search needs, reset-start _ _ _)
 
 mul-table : tie.Need-mul-table Inv-loop μ-loop
 mul-table c = search needs
@@ -33,8 +30,9 @@ loop-less c = search needs
 
 loop-again : tie.Need-loop-again Inv-loop μ-loop
 loop-again c =
-    let loop = c .before .before .loop in
-    (search needs, search needs, reset-next (loop .inv .2) (loop .inv .0) (search needs) (c .blank-at .ensures))
+    let loop = c .before .loop in
+    let part = blank-part _ _ (le-trans (c .before .before .pre .0) (loop .inv .0)) in
+    (search needs, search needs, reset-next (loop .inv .2) (loop .inv .0) (search needs) part)
 
 same-length : tie.Need-same-length Inv-loop μ-loop
 same-length c = search needs
@@ -42,14 +40,13 @@ same-length c = search needs
 returns : tie.Need-returns Inv-loop μ-loop
 returns c = rw (le-antisymm (c .before .loop .inv .1) (c .loop-test .left)) at (c .before .loop .inv .2)
 
-pub reset-spec : {M : Type 1} → statement M
-reset-spec =
+pub reset-part-spec : {M : Type 1} → statement M
+reset-part-spec =
     tie.close
     (tie.spec
     Inv-loop
     μ-loop
     loop-holds
-    blank-at-requires
     mul-table
     slice-write-table
     add-i
