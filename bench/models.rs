@@ -1,12 +1,25 @@
 // The fixed models, as records. Random ones come from a generator of our own with a fixed seed, so every run has the same.
+use std::collections::BTreeSet;
+use Right::{Push, Remove, Swap};
 
 pub struct Family {
     pub name: String,
     pub records: Vec<Vec<u8>>,
 }
 
-// A rule: before state and symbol, after state, new symbols.
-type Rule = (u8, u8, u8, Vec<u8>);
+// The new symbols. Fewer come first, as in a record.
+#[derive(PartialEq, Eq, PartialOrd, Ord)]
+enum Right {
+    Remove,
+    Swap(u8),
+    Push(u8, u8),
+}
+
+// A rule: before state and symbol, after state, new symbols. They are compared in this order, which is that of a record.
+type Rule = (u8, u8, u8, Right);
+
+// A thread's rules, each once and in order: a rule's number is its place.
+type Rules = BTreeSet<Rule>;
 
 // `held` marks the held rules of each thread, rule 0 in the lowest bit.
 struct Model {
@@ -16,7 +29,7 @@ struct Model {
     tops: [Option<u8>; 2],
     held: [u64; 2],
     first: [u8; 2],
-    rules: [Vec<Rule>; 2],
+    rules: [Rules; 2],
 }
 
 // No top is named.
@@ -53,14 +66,24 @@ impl Random {
         ((self.0 >> 33) % n as u64) as u8
     }
 
-    // Rules with none, one or two new symbols alike often.
-    fn rules(&mut self, Kind { g, symbols, rules, .. }: Kind) -> Vec<Rule> {
-        let mut rule = || {
-            let (before, symbol, after) = (self.below(g), self.below(symbols), self.below(g));
-            let new = (0..self.below(3)).map(|_| self.below(symbols)).collect();
-            (before, symbol, after, new)
+    // So many rules: one that is there already is drawn again.
+    fn rules(&mut self, kind: Kind) -> Rules {
+        let mut rules = Rules::new();
+        while rules.len() < kind.rules {
+            rules.insert(self.rule(kind));
+        }
+        rules
+    }
+
+    // A rule with none, one or two new symbols alike often.
+    fn rule(&mut self, Kind { g, symbols, .. }: Kind) -> Rule {
+        let (before, symbol, after) = (self.below(g), self.below(symbols), self.below(g));
+        let right = match self.below(3) {
+            0 => Remove,
+            1 => Swap(self.below(symbols)),
+            _ => Push(self.below(symbols), self.below(symbols)),
         };
-        (0..rules).map(|_| rule()).collect()
+        (before, symbol, after, right)
     }
 
     // The marks of so many rules, of which three in eight are held.
@@ -94,9 +117,13 @@ impl Model {
                 bytes[0] |= 64 << thread;
                 bytes.push(rules.len() as u8);
             }
-            for (before, symbol, after, new) in rules {
-                let map = [0, 2, 6][new.len()] + (before != after) as u8;
-                bytes.extend([map, before * 16 + symbol]);
+            for (before, symbol, after, right) in rules {
+                let (map, new) = match *right {
+                    Remove => (0, vec![]),
+                    Swap(a) => (2, vec![a]),
+                    Push(a, b) => (6, vec![a, b]),
+                };
+                bytes.extend([map + (before != after) as u8, before * 16 + symbol]);
                 bytes.extend((before != after).then_some(*after));
                 bytes.extend(new);
             }
@@ -217,34 +244,37 @@ fn document() -> Family {
 }
 
 // In a state, each symbol from 1 up to `end`, that one left out, becomes two of the one before it, and 0 is removed.
-fn double(state: u8, end: u8) -> Vec<Rule> {
-    let mut rules = vec![(state, 0, state, vec![])];
-    rules.extend((1..end).map(|i| (state, i, state, vec![i - 1, i - 1])));
+fn double(state: u8, end: u8) -> Rules {
+    let mut rules = Rules::from([(state, 0, state, Remove)]);
+    rules.extend((1..end).map(|i| (state, i, state, Push(i - 1, i - 1))));
     rules
 }
 
 // Document 01's doubling model: 12 becomes `top` above 13, and 13 moves to the target.
 fn doubled(top: u8, k: u8) -> Model {
     let mut a = double(0, 12);
-    a.extend([(0, 12, 0, vec![top, 13]), (0, 13, 1, vec![])]);
-    Model { g: 2, k, target: 1, tops: ANY, held: FREE, first: [12, 0], rules: [a, vec![]] }
+    a.extend([(0, 12, 0, Push(top, 13)), (0, 13, 1, Remove)]);
+    Model { g: 2, k, target: 1, tops: ANY, held: FREE, first: [12, 0], rules: [a, Rules::new()] }
 }
 
-// Both threads double, by rules in the order that the search likes least: A up to state 1, B from there to the target.
+// Both threads double, A up to state 1 and B from there to the target, with symbol 13 - s in place of s: the rule of a symbol stands before
+// those of the symbols that it becomes, which is the order that the search likes least.
 fn mirrored(top: u8) -> Model {
     let thread = |from: u8, to: u8| {
-        let mut rules: Vec<Rule> = (0..4).flat_map(|g| double(g, 12)).collect();
-        rules.extend([(from, 12, from, vec![top, 13]), (from, 13, to, vec![])]);
-        rules.reverse();
+        let mut rules = Rules::from([(from, 0, to, Remove), (from, 1, from, Push(13 - top, 0))]);
+        for g in 0..4 {
+            rules.extend((2..13).map(|i| (g, i, g, Push(i + 1, i + 1))));
+            rules.insert((g, 13, g, Remove));
+        }
         rules
     };
-    Model { g: 4, k: 3, target: 3, tops: ANY, held: FREE, first: [12, 12], rules: [thread(0, 1), thread(1, 3)] }
+    Model { g: 4, k: 3, target: 3, tops: ANY, held: FREE, first: [1, 1], rules: [thread(0, 1), thread(1, 3)] }
 }
 
 // Eleven pushes one after another, each of which takes twice the steps of the one after it, and a last step: 4,095.
 fn longest(k: u8) -> Model {
-    let mut a: Vec<Rule> = (0..3).flat_map(|g| double(g, 11)).collect();
-    a.extend((0..11).map(|n| (n % 3, 11 + n / 3, (n + 1) % 3, vec![10 - n, 11 + (n + 1) / 3])));
-    a.push((2, 14, 3, vec![]));
-    Model { g: 4, k, target: 3, tops: ANY, held: FREE, first: [11, 0], rules: [a, vec![]] }
+    let mut a: Rules = (0..3).flat_map(|g| double(g, 11)).collect();
+    a.extend((0..11).map(|n| (n % 3, 11 + n / 3, (n + 1) % 3, Push(10 - n, 11 + (n + 1) / 3))));
+    a.insert((2, 14, 3, Remove));
+    Model { g: 4, k, target: 3, tops: ANY, held: FREE, first: [11, 0], rules: [a, Rules::new()] }
 }

@@ -5,6 +5,9 @@
  * answer stands above the kind, and a macro takes it out. A call that refuses changes no byte of any store. Nothing else is asked of
  * the bytes: any are taken.
  *
+ * The rules of a thread ascend, each above the one before it: by before state, before symbol, after state, number of new symbols, first new
+ * symbol and second new symbol. So no rule stands twice, and a model has one record, however its rules were gathered.
+ *
  * A record may name the symbol that tops A's stack at the target, B's, or both. A run reaches the target if it ends with the target state
  * under the tops that are named; an empty stack has no top.
  *
@@ -47,7 +50,8 @@ enum turncheck_refusal {
     TURNCHECK_REFUSED_STEP_TURN = 9,       /* a step's turn is not one of the 2K, or below that of the step before */
     TURNCHECK_REFUSED_STEP_RULE = 10,      /* a step's rule is not in the list, or does not apply */
     TURNCHECK_REFUSED_MARK_RANGE = 11,     /* a rule number that the thread's list lacks is marked as held */
-    TURNCHECK_REFUSED_STEP_HELD = 12       /* the schedule leaves a turn after a held step, or ends after one */
+    TURNCHECK_REFUSED_STEP_HELD = 12,      /* the schedule leaves a turn after a held step, or ends after one */
+    TURNCHECK_REFUSED_RULE_ORDER = 13      /* a rule is not above the one before it in its thread's list */
 };
 
 /* What a call answers where it does not refuse. */
@@ -78,37 +82,37 @@ enum turncheck_kind {
 #define TURNCHECK_STATE(number) TURNCHECK_FIELD1(number)  /* TURNCHECK_STOPPED, TURNCHECK_REACHED: a state, at most 3 */
 #define TURNCHECK_PAGE_LENGTH(number) ((size_t)((number) >> 16 & 0xFFFFFFFF)) /* TURNCHECK_PAGED: at most 299,008 */
 
-/* Reads a record: TURNCHECK_DONE, or refusal 1 to 6 or 11. */
+/* Reads a record: TURNCHECK_DONE, or refusal 1 to 6, 11 or 13. */
 uint64_t turncheck_read(const uint8_t *record, size_t record_size);
 
 /* Reads the first record of a tray, which is records one after another: TURNCHECK_TAKEN with the record's length, TURNCHECK_NONE for
- * an empty tray, or refusal 1 to 5 or 11. So many bytes are a record by themselves, which every other call takes; go on with the tray
+ * an empty tray, or refusal 1 to 5, 11 or 13. So many bytes are a record by themselves, which every other call takes; go on with the tray
  * behind them, which are no fault of this record. A refused record has no length, so nothing behind it can be read. */
 uint64_t turncheck_first(const uint8_t *tray, size_t tray_size);
 
 /* Reads a record and writes its model again, to the front of the store; the bytes beyond keep their value. The bytes are those of
- * the record. Answers TURNCHECK_WRITTEN with how many they are, or refusal 1 to 7 or 11. */
+ * the record. Answers TURNCHECK_WRITTEN with how many they are, or refusal 1 to 7, 11 or 13. */
 uint64_t turncheck_write(const uint8_t *record, size_t record_size, uint8_t *store, size_t store_size);
 
 /* Fills the line table of a record's model: bit p, in byte p div 8, lowest bit first, stands exactly if some run ends its turns
  * along the line at place p. Spare bits of the table's last byte are 0; the bytes beyond keep their value.
- * Answers TURNCHECK_DONE, or refusal 1 to 7 or 11. */
+ * Answers TURNCHECK_DONE, or refusal 1 to 7, 11 or 13. */
 uint64_t turncheck_lines(const uint8_t *record, size_t record_size, uint8_t *lines, size_t lines_size);
 
-/* Judges a record's model: TURNCHECK_CLEAR, TURNCHECK_LONG, or TURNCHECK_FOUND with the number of steps; or refusal 1 to 7 or 11.
- * Each verdict fills the line table as turncheck_lines does. Found writes a shortest schedule to the front of the schedule store,
+/* Judges a record's model: TURNCHECK_CLEAR, TURNCHECK_LONG, or TURNCHECK_FOUND with the number of steps; or refusal 1 to 7, 11
+ * or 13. Each verdict fills the line table as turncheck_lines does. Found writes a shortest schedule to the front of the schedule store,
  * two bytes a step: the turn, and the rule's number in its thread's list, from 0. All other bytes keep their value. The schedule
  * store has at least TURNCHECK_SCHEDULE_BYTES, whatever the verdict. */
 uint64_t turncheck_judge(const uint8_t *record, size_t record_size, uint8_t *lines, size_t lines_size, uint8_t *schedule,
                          size_t schedule_size);
 
 /* Walks a schedule of a record's model from its start: TURNCHECK_STOPPED or TURNCHECK_REACHED with the last shared state,
- * or refusal 1 to 6 or 8 to 12. */
+ * or refusal 1 to 6 or 8 to 13. */
 uint64_t turncheck_replay(const uint8_t *record, size_t record_size, const uint8_t *schedule, size_t schedule_size);
 
 /* Walks a schedule of a record's model as turncheck_replay does, and writes its page to the front of the store, in ASCII: a line of 72
  * characters and a line feed for each step, with the shared state and both stacks after it, and a foot line. The bytes beyond keep their
- * value. Answers TURNCHECK_PAGED with how many bytes the page has, 73 for each step and 73 more; or refusal 1 to 6 or 8 to 12, or then 7
+ * value. Answers TURNCHECK_PAGED with how many bytes the page has, 73 for each step and 73 more; or refusal 1 to 6 or 8 to 13, or then 7
  * for a store with fewer. */
 uint64_t turncheck_page(const uint8_t *record, size_t record_size, const uint8_t *schedule, size_t schedule_size, uint8_t *store,
                         size_t store_size);

@@ -51,6 +51,16 @@ fn beyond(marks: u64, rules: &[Rule]) -> bool {
     marks.checked_shr(rules.len() as u32).is_some_and(|rest| rest != 0)
 }
 
+// A rule's place in the order of rules: its before state and symbol, its after state, how many new symbols it has, and these.
+fn key(rule: &Rule) -> usize {
+    let right = match rule.right {
+        Right::Remove => 0,
+        Right::Swap(a) => 256 + a * 16,
+        Right::Push(a, b) => 512 + a * 16 + b,
+    };
+    ((rule.before * 16 + rule.symbol) * 16 + rule.after) * 4096 + right
+}
+
 impl Reader<'_> {
     fn byte(&mut self) -> Result<u8, u64> {
         let byte = *self.bytes.get(self.at).ok_or(1u64)?;
@@ -97,9 +107,20 @@ impl Reader<'_> {
         }
     }
 
+    // Each rule is above the one before it.
     fn rules(&mut self, present: bool, g: u8, marks: u64) -> Result<Vec<Rule>, u64> {
         let count = self.field(present, 4, 0, 65, 0)?;
-        (0..count).map(|r| self.rule(g, marks >> r & 1 == 1)).collect()
+        let mut least = 0;
+        let rule = |r| {
+            let rule = self.rule(g, marks >> r & 1 == 1)?;
+            let key = key(&rule);
+            if key < least {
+                return Err(13);
+            }
+            least = key + 1;
+            Ok(rule)
+        };
+        (0..count).map(rule).collect()
     }
 
     fn rule(&mut self, g: u8, held: bool) -> Result<Rule, u64> {

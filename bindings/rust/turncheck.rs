@@ -1,6 +1,8 @@
 //! turncheck from Rust: a proved checker for races between two threads with stacks.
 //!
 //! Each call takes the bytes of a model record, or of a tray of them. A call that refuses changes no byte of any store.
+//! The rules of a thread ascend, each above the one before it: by before state, before symbol, after state, number of new symbols, first
+//! new symbol and second new symbol. So no rule stands twice, and a model has one record, however its rules were gathered.
 //! A record may name the symbol that tops A's stack at the target, B's, or both. A run reaches the target if it ends with the target
 //! state under the tops that are named; an empty stack has no top.
 //! A record may also mark rules of A and of B as held, by eight bytes for each thread: bit r mod 8 of byte r div 8, the lowest bit being
@@ -45,6 +47,8 @@ pub enum Refusal {
     MarkRange = 11,
     /// The schedule leaves a turn after a held step, or ends after one.
     StepHeld = 12,
+    /// A rule is not above the one before it in its thread's list.
+    RuleOrder = 13,
 }
 
 /// A verdict on a model.
@@ -128,6 +132,7 @@ fn refusal(number: u64) -> Refusal {
         10 => Refusal::StepRule,
         11 => Refusal::MarkRange,
         12 => Refusal::StepHeld,
+        13 => Refusal::RuleOrder,
         _ => panic!("turncheck: the library answers {number:#x}, which this wrapper does not know"),
     }
 }

@@ -1,4 +1,4 @@
--- What the call for a tray's first record answers is in range, so its number says it: the refusal is one from 1 to 5 or 11, and the
+-- What the call for a tray's first record answers is in range, so its number says it: the refusal is one from 1 to 5, 11 or 13, and the
 -- record has at most 668 bytes.
 use mathlib.Core.List.{List}
 use mathlib.Core.Path.{_≡_, refl, sym, ap, subst, _∙_}

@@ -13,8 +13,8 @@ use Rattle.model.specs.Verdict.{clear, long, found, Judged}
 use Rattle.judge.specs.declared.Judgement.{Judgement}
 use Rattle.judge.specs.declared.Judgement.the-variants.{Clear, Long, Found, Refused}
 
--- The refusal that a model and the lengths of the two stores get: the model's fault (3, 4), then 7 where the line store has
--- too few bits or the schedule store fewer than 8,190 bytes; 0 for none.
+-- The refusal that a model and the lengths of the two stores get: the model's fault (3, 4, 13 or 11), then 7 where the line store
+-- has too few bits or the schedule store fewer than 8,190 bytes; 0 for none.
 unfoldable pub refusalOf : Model → ℕ → ℕ → ℕ
 refusalOf m lines schedule = storeRefusal m (tableFits m lines && leb mostBytes schedule)
 

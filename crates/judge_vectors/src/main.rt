@@ -4,6 +4,15 @@ use vectors::Tally;
 
 mod cases;
 
+// A model with 64 rules in A, which remove every symbol in every state. The target is state 1.
+const MANY: [u8; 131] = *b"\x48\x01\x40\
+      \x00\x00\x00\x01\x00\x02\x00\x03\x00\x04\x00\x05\x00\x06\x00\x07\x00\x08\x00\x09\x00\x0A\x00\x0B\
+      \x00\x0C\x00\x0D\x00\x0E\x00\x0F\x00\x10\x00\x11\x00\x12\x00\x13\x00\x14\x00\x15\x00\x16\x00\x17\
+      \x00\x18\x00\x19\x00\x1A\x00\x1B\x00\x1C\x00\x1D\x00\x1E\x00\x1F\x00\x20\x00\x21\x00\x22\x00\x23\
+      \x00\x24\x00\x25\x00\x26\x00\x27\x00\x28\x00\x29\x00\x2A\x00\x2B\x00\x2C\x00\x2D\x00\x2E\x00\x2F\
+      \x00\x30\x00\x31\x00\x32\x00\x33\x00\x34\x00\x35\x00\x36\x00\x37\x00\x38\x00\x39\x00\x3A\x00\x3B\
+      \x00\x3C\x00\x3D\x00\x3E\x00\x3F";
+
 // The model that a record holds is Clear.
 fn clear(bytes: &[u8]) -> bool {
     cases::agrees(bytes, cases::CLEAR, 0, &[])
@@ -83,8 +92,9 @@ fn held() -> Tally {
     ))
 }
 
-// Stores of just the size needed, and one byte less; models that no record holds: no states at all, a thread
-// with 65 rules, a top that is no symbol, and a mark on rule 63 of a thread with fewer rules.
+// Stores of just the size needed, and one byte less; models that no record holds: no states at all, a thread with 65 rules, a top that is
+// no symbol, a mark on rule 63 of a thread with fewer rules, and a last rule that is below the one before it, in A, in B, and beside such a
+// mark: Two with one rule more, which is blank.
 fn limits() -> Tally {
     let two = vectors::TWO;
     let once = vectors::TWO_ONCE;
@@ -97,12 +107,8 @@ fn limits() -> Tally {
         0,
         683,
     ));
-    let mut bytes = [0u8; 131];
-    bytes[0] = 0x48;
-    bytes[1] = 0x01;
-    bytes[2] = 0x40;
-    t = t.counted(clear(&bytes));
-    let reading = record::read(&bytes);
+    t = t.counted(clear(&MANY));
+    let reading = record::read(&MANY);
     let m = reading.model;
     t = t.counted(cases::refuses(cases::with_a(m, 65), 4));
     t = t.counted(cases::refuses(cases::with_b(m, 65), 4));
@@ -110,6 +116,11 @@ fn limits() -> Tally {
     t = t.counted(cases::refuses(cases::with_top_b(m, 16), 3));
     t = t.counted(cases::refuses(cases::with_a(cases::with_marks_a(m, 128), 63), 11));
     t = t.counted(cases::refuses(cases::with_marks_b(m, 128), 11));
+    let short = record::read(&two);
+    let n = short.model;
+    t = t.counted(cases::refuses(cases::with_a(n, 4), 13));
+    t = t.counted(cases::refuses(cases::with_b(n, 2), 13));
+    t = t.counted(cases::refuses(cases::with_a(cases::with_marks_b(n, 128), 4), 13));
     let empty = record::read(&[]);
     t.counted(cases::refuses(empty.model, 3))
 }

@@ -3,7 +3,7 @@
 use mathlib.Core.Bool.{Bool}
 use mathlib.Core.List.{List, [], _∷_}
 use mathlib.Core.Path.{_≡_, refl, sym, fun-ext}
-use Prim.Native.Nat.{ℕ, _<_}
+use Prim.Native.Nat.{ℕ, suc, _<_}
 use native.Mathlib.Decide.{decLt}
 use native.Mathlib.Omega.{arith}
 use borrow.Author.Tests.{le-ltb}
@@ -54,6 +54,9 @@ fits {g} {h} {t} {u} e s f =
       top = rw (← s .top) (f .top);
       count = rw (← s .count) (f .count);
       rules = λ r k. let j : r < t .count = rw (s .count) k in rw (← e, ← s .rules r j) (f .rules r j);
+      order = λ r k.
+          let next : suc r < t .count = rw (s .count) k in
+          rw (← s .rules r (omega arith), ← s .rules (suc r) next) (f .order r next);
       free = λ r h k. rw (← s .held) (f .free r (rw (s .count) h) k);
     }
 

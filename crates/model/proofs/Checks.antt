@@ -3,13 +3,10 @@ use mathlib.Core.Bool.{Bool, true, false}
 use mathlib.Core.List.{List, [], _∷_, map}
 use mathlib.Core.Logic.{_↔_}
 use mathlib.Core.Path.{_≡_, refl, sym, _∙_}
-use Prim.Native.Nat.{ℕ, zero, suc, _+_, _<_, _≤_}
-use native.Mathlib.Nat.{le-antisymm}
-use native.Mathlib.Numerals.{add-one}
+use Prim.Native.Nat.{ℕ, zero, suc}
 use native.Mathlib.Omega.{arith}
 use lib.Dec.{T}
-use lib.ListN.{length, getD, length-map}
-use lib.Seq.{slice, slice-cons, slice-empty}
+use lib.ListN.{length, length-map}
 use Rattle.model.specs.Results.{refuse, firstOf}
 
 -- A fault that is found is the answer, whatever is checked after it.
@@ -41,26 +38,6 @@ unfolding firstOf
 both-pass zero n true = (λ h. (refl, tt), λ h. refl)
 both-pass zero n false = (λ h. absurd (omega arith), λ h. absurd (h .1))
 both-pass (suc fault) n test = (λ h. absurd (omega arith), λ h. absurd (omega (arith, h .0)))
-
--- The fault of the elements from place i up to n.
-abbrev pub faultFrom : {A : Type 0} → (A → ℕ) → List A → ℕ → ℕ → ℕ
-faultFrom check l i n = firstOf (map check (slice i n l))
-
--- A loop of checks: the fault found at place i is that of all places from i on ..
-module _ {A : Type 0} (check : A → ℕ) (l : List A) (d : A) (i n : ℕ) (h : i < n) (k : n ≤ length l)
-    {found : ℕ} (e : found ≡ check (getD l i d)) where
-  pub stops-at : (found ≡ 0 → ⊥) → found ≡ faultFrom check l i n
-  stops-at p = rw (slice-cons i n l d h k) (stops _ e p)
-
-  -- .. and where there is none, the places after it decide.
-  pub goes-on : found ≡ 0 → faultFrom check l (i + 1) n ≡ faultFrom check l i n
-  goes-on z = rw (slice-cons i n l d h k, add-one) (passes _ e z refl)
-
--- At the last place there is no fault left to find.
-pub runs-out : {A : Type 0} (check : A → ℕ) (l : List A) (i n : ℕ) → i ≤ n → n ≤ i
-    → faultFrom check l i n ≡ faultFrom check l 0 n → 0 ≡ faultFrom check l 0 n
-unfolding firstOf
-runs-out check l i n h k e = rw (le-antisymm h k, slice-empty) at e
 
 -- A list is as long as its image.
 pub length-mapped : {X Y : Type 0} (f : X → Y) (l : List X) (n : ℕ) → length (map f l) ≡ n → length l ≡ n

@@ -1,12 +1,16 @@
 pub mod Alike
+pub mod Bytes
 pub mod Checks
 pub mod Granted
 pub mod Inside
+pub mod Keys
 pub mod Marks
+pub mod Order
 pub mod Owners
 pub mod Positions
 pub mod Ranges
 pub mod Results
+pub mod Sets
 pub mod Steps
 pub mod Stores
 pub mod Table

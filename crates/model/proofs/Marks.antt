@@ -1,5 +1,5 @@
--- Marks of held rules: no rule number from a place on is held exactly if each of them is not, by recursion on how many there are; and in
--- bytes that are all 0 no mark stands.
+-- Marks of held rules: none stands on the rule numbers from a place on exactly if none does on each, by recursion on how many there are; and
+-- in bytes that are all 0 none stands.
 use mathlib.Core.Bool.{Bool, true, false, not}
 use mathlib.Core.List.{List, [], _∷_}
 use mathlib.Core.Logic.{_↔_}
@@ -14,44 +14,42 @@ use lib.ListN.{length, getD, drop, drop-of-length-le, List·getD-eq-default}
 use lib.Seq.{drop-cons}
 use borrow.Author.Tests.{eq-eqb, ne-eqb}
 use Rattle.model.specs.Bits.{bitAt, allZero}
-use Rattle.model.specs.declared.Thread.{Thread}
-use Rattle.model.specs.Rules.{heldAt}
 use Rattle.model.specs.Valid.{freeFrom}
 use Rattle.model.proofs.Tests.{passed, both, equal, negated}
 
--- None of n rule numbers from r on is held exactly if each of them is not.
-pub free : (t : Thread) (n r : ℕ) → T (freeFrom t r n) ↔ ((i : ℕ) → r ≤ i → i < r + n → heldAt t i ≡ false)
+-- No mark stands on n rule numbers from r on exactly if none stands on each of them.
+pub free : (l : List ℕ) (n r : ℕ) → T (freeFrom l r n) ↔ ((i : ℕ) → r ≤ i → i < r + n → bitAt l i ≡ false)
 unfolding freeFrom
-free t zero r = (λ h i a b. absurd (omega arith), λ h. tt)
-free t (suc n) r =
-    let first = both (not (heldAt t r)) (freeFrom t (suc r) n) in
-    let rest = free t n (suc r) in (
+free l zero r = (λ h i a b. absurd (omega arith), λ h. tt)
+free l (suc n) r =
+    let first = both (not (bitAt l r)) (freeFrom l (suc r) n) in
+    let rest = free l n (suc r) in (
       λ h i a b.
           elim (decLt r i) [
-            | yes l ↦ rest .0 (first .0 h .1) i l (omega arith)
-            | no l ↦ rw (sym (le-antisymm a (omega arith))) (negated (heldAt t r) .0 (first .0 h .0))
+            | yes k ↦ rest .0 (first .0 h .1) i k (omega arith)
+            | no k ↦ rw (sym (le-antisymm a (omega arith))) (negated (bitAt l r) .0 (first .0 h .0))
           ],
-      λ h. first .1 (negated (heldAt t r) .1 (h r (omega arith) (omega arith)), rest .1 (λ i a b. h i (omega arith) (omega arith))),
+      λ h. first .1 (negated (bitAt l r) .1 (h r (omega arith) (omega arith)), rest .1 (λ i a b. h i (omega arith) (omega arith))),
     )
 
 -- The rule numbers from r on, of 64.
-abbrev pub freeOn : Thread → ℕ → Bool
-freeOn t r = freeFrom t r (64 - r)
+abbrev pub freeOn : List ℕ → ℕ → Bool
+freeOn l r = freeFrom l r (64 - r)
 
 -- A loop over them: where number r is held, not all from r on are free ..
-pub found : (t : Thread) (r : ℕ) → r < 64 → heldAt t r ≡ true → freeOn t r ≡ false
+pub found : (l : List ℕ) (r : ℕ) → r < 64 → bitAt l r ≡ true → freeOn l r ≡ false
 unfolding freeFrom
-found t r h e = let s : 64 - r ≡ suc (64 - suc r) = omega arith in rw (s, e)
+found l r h e = let s : 64 - r ≡ suc (64 - suc r) = omega arith in rw (s, e)
 
 -- .. and where it is not, those after it decide.
-pub onward : (t : Thread) (r : ℕ) → r < 64 → heldAt t r ≡ false → freeOn t (r + 1) ≡ freeOn t r
+pub onward : (l : List ℕ) (r : ℕ) → r < 64 → bitAt l r ≡ false → freeOn l (r + 1) ≡ freeOn l r
 unfolding freeFrom
-onward t r h e = let s : 64 - r ≡ suc (64 - suc r) = omega arith in rw (s, e, add-one)
+onward l r h e = let s : 64 - r ≡ suc (64 - suc r) = omega arith in rw (s, e, add-one)
 
 -- Past the last there is none to look at.
-pub past : (t : Thread) (r : ℕ) → 64 ≤ r → freeOn t r ≡ true
+pub past : (l : List ℕ) (r : ℕ) → 64 ≤ r → freeOn l r ≡ true
 unfolding freeFrom
-past t r h = let s : 64 - r ≡ 0 = omega arith in rw s
+past l r h = let s : 64 - r ≡ 0 = omega arith in rw s
 
 -- A loop over bytes: where one is not 0, not all from it on are ..
 pub not-zero : {n : ℕ} (l : List ℕ) (i : ℕ) → length l ≡ n → i < n → (getD l i 0 ≡ 0 → ⊥) → allZero (drop i l) ≡ false
@@ -80,8 +78,8 @@ pub no-bit : (l : List ℕ) → T (allZero l) → (p : ℕ) → bitAt l p ≡ fa
 no-bit l z p = rw (zero-byte l z (p / 8), zero-div (2 ^ (p % 8))) refl
 
 -- Where no mark stands, all rule numbers from r on are free.
-pub all-free : (t : Thread) (r : ℕ) → allZero (t .held) ≡ true → freeOn t r ≡ true
-all-free t r z = passed (freeOn t r) (free t (64 - r) r .1 (λ i h k. no-bit (t .held) (rw z tt) i))
+pub all-free : (l : List ℕ) (r : ℕ) → allZero l ≡ true → freeOn l r ≡ true
+all-free l r z = passed (freeOn l r) (free l (64 - r) r .1 (λ i h k. no-bit l (rw z tt) i))
 
 -- Beyond its bytes a list has no bit that stands.
 pub bit-beyond : (l : List ℕ) (p : ℕ) → length l ≡ 8 → 64 ≤ p → bitAt l p ≡ false

@@ -1,14 +1,15 @@
 -- A valid model read as ranges: no fault among checks made in order is no fault in each, and a check that finds none is
 -- its test passed.
 use mathlib.Core.Bool.{Bool, true, false}
-use mathlib.Core.List.{List, [], _∷_, map}
+use mathlib.Core.List.{List, _∷_}
 use mathlib.Core.Logic.{_↔_, Iff·rfl}
-use mathlib.Core.Path.{_≡_, refl}
+use mathlib.Core.Path.{_≡_, refl, sym}
 use Prim.Native.Nat.{ℕ, zero, suc, _+_, _-_, _≤_, _<_}
+use native.Mathlib.Decide.{decLt}
+use native.Mathlib.Nat.{le-antisymm}
 use native.Mathlib.Omega.{arith}
 use lib.Dec.{T, ltb}
 use borrow.Author.Tests.{ltb-true}
-use lib.ListN.{getD, take}
 use Rattle.model.specs.declared.Model.{Model}
 use Rattle.model.specs.declared.Right.{Right}
 use Rattle.model.specs.declared.Right.the-variants.{Remove, Swap, Push}
@@ -17,11 +18,12 @@ use Rattle.model.specs.declared.Thread.{Thread}
 use Rattle.model.specs.declared.Top.{Top}
 use Rattle.model.specs.declared.Top.the-variants.{Any, Named}
 use Rattle.model.specs.Fits.{RightFits, RuleFits, TopFits, Fits}
+use Rattle.model.specs.Order.{keyOf, above}
 use Rattle.model.specs.Results.{refuse, firstOf}
-use Rattle.model.specs.Rules.{ruleAt, zeroRule, heldAt}
+use Rattle.model.specs.Rules.{ruleAt, heldAt}
 use Rattle.model.proofs.Marks.{free}
-use Rattle.model.proofs.Tests.{tests}
-use Rattle.model.specs.Valid.{rangeFault, topFault, headFault, symbolFault, rightFault, ruleFault, threadFault, freeFrom, markFault, faultOf, Valid}
+use Rattle.model.proofs.Tests.{order, tests}
+use Rattle.model.specs.Valid.{rangeFault, topFault, headFault, symbolFault, rightFault, ruleFault, rulesFault, threadFault, freeFrom, markFault, marksFault, faultOf, Valid}
 
 -- No fault of checks in order is no fault of the first and none of the others.
 none : (n : ℕ) (ns : List ℕ) → (firstOf (n ∷ ns) ≡ 0) ↔ ((n ≡ 0) × (firstOf ns ≡ 0))
@@ -35,25 +37,6 @@ passes n true e = (λ h. tt, λ h. refl)
 passes n false e = (λ h. omega (arith, ltb-true), λ h. absurd h)
 
 ruleset checks = (none, passes, tests)
-
--- What holds of an element and at each place of a list holds at each place of the longer one.
-consed : {A : Type 0} (P : A → Type 0) (x : A) (xs : List A) (d : A) (n : ℕ)
-    → P x → ((i : ℕ) → i < n → P (getD xs i d)) → (i : ℕ) → i < suc n → P (getD (x ∷ xs) i d)
-consed P x xs d n p h zero k = p
-consed P x xs d n p h (suc i) k = h i (omega arith)
-
--- No fault among the first n of a list is none at each place below n, where the default has none either.
-within : {A : Type 0} (f : A → ℕ) (d : A) → f d ≡ 0 → (n : ℕ) (l : List A)
-    → (firstOf (map f (take n l)) ≡ 0) ↔ ((i : ℕ) → i < n → f (getD l i d) ≡ 0)
-unfolding firstOf
-within f d e zero l = (λ h i k. absurd (omega arith), λ h. refl)
-within f d e (suc n) [] = (λ h i k. e, λ h. refl)
-within f d e (suc n) (x ∷ xs) =
-    let first = none (f x) (map f (take n xs)) in
-    let rest = within f d e n xs in (
-      λ h. let z = first .0 h in consed (λ y. f y ≡ 0) x xs d n (z .0) (rest .0 (z .1)),
-      λ h. first .1 (h 0 (omega arith), rest .1 (λ i k. h (suc i) (omega arith))),
-    )
 
 top : (x : Top) → (topFault x ≡ 0) ↔ TopFits x
 unfolding topFault
@@ -75,52 +58,100 @@ rule g r = (
   λ f. simp (checks, right) (f .state, (f .top, (f .next, (f .symbols, refl)))),
 )
 
--- A thread's count and rules, where there are states at all.
-thread : (g : ℕ) → 0 < g → (t : Thread)
-    → (threadFault g t ≡ 0) ↔ ((t .count ≤ 64) × ((r : ℕ) → r < t .count → RuleFits g (ruleAt t r)))
+-- A rule that passes both of its checks is in range and above the one before it.
+checked : (g : ℕ) (t : Thread) (r n : ℕ)
+    → (rulesFault g t r (suc n) ≡ 0) ↔ (RuleFits g (ruleAt t r) × T (above t r) × (rulesFault g t (suc r) n ≡ 0))
+unfolding rulesFault firstOf
+checked g t r n = (
+  λ h. let z = simp (none, passes, rule) at h in (z .0, z .1 .0, z .1 .1 .0),
+  λ f. simp (none, passes, rule) (f .0, (f .1, (f .2, refl))),
+)
+
+-- No fault of n rules from number r on is none of each.
+rules : (g : ℕ) (t : Thread) (n r : ℕ)
+    → (rulesFault g t r n ≡ 0) ↔ ((i : ℕ) → r ≤ i → i < r + n → RuleFits g (ruleAt t i) × T (above t i))
+unfolding rulesFault
+rules g t zero r = (λ h i a b. absurd (omega arith), λ h. refl)
+rules g t (suc n) r =
+    let first = checked g t r n in
+    let rest = rules g t n (suc r) in (
+      λ h i a b.
+          let z = first .0 h in
+          elim (decLt r i) [
+            | yes l ↦ rest .0 (z .2) i l (omega arith)
+            | no l ↦ rw (sym (le-antisymm a (omega arith))) (z .0, z .1)
+          ],
+      λ h.
+          let z = h r (omega arith) (omega arith) in
+          first .1 (z .0, z .1, rest .1 (λ i a b. h i (omega arith) (omega arith))),
+    )
+
+-- Each of n rules is above the one before it exactly if their keys ascend.
+ascends : (t : Thread) (n : ℕ)
+    → ((i : ℕ) → i < n → T (above t i)) ↔ ((r : ℕ) → suc r < n → keyOf (ruleAt t r) < keyOf (ruleAt t (suc r)))
+unfolding above
+ascends t n = (λ h r k. order _ _ .0 (h (suc r) k), back)
+  where
+    back : ((r : ℕ) → suc r < n → keyOf (ruleAt t r) < keyOf (ruleAt t (suc r))) → (i : ℕ) → i < n → T (above t i)
+    back h zero k = tt
+    back h (suc r) k = order _ _ .1 (h r k)
+
+-- What is asked of a thread's count and rules.
+record RulesFit (g : ℕ) (t : Thread) : Type 0 where
+  count : t .count ≤ 64
+  each : (r : ℕ) → r < t .count → RuleFits g (ruleAt t r)
+  order : (r : ℕ) → suc r < t .count → keyOf (ruleAt t r) < keyOf (ruleAt t (suc r))
+
+thread : (g : ℕ) (t : Thread) → (threadFault g t ≡ 0) ↔ RulesFit g t
 unfolding threadFault firstOf
-thread g p t =
-    let zero-fits : ruleFault g zeroRule ≡ 0 = rule g zeroRule .1 (record { state = p; top = omega arith; next = p; symbols = tt }) in
-    let each = within (ruleFault g) zeroRule zero-fits (t .count) (t .rules) in (
-      λ h. let z = simp checks at h in (z .0, λ r k. rule g (ruleAt t r) .0 (each .0 (z .1 .0) r k)),
-      λ f. simp checks (f .0, (each .1 (λ r k. rule g (ruleAt t r) .1 (f .1 r k)), refl)),
+thread g t =
+    let all = rules g t (t .count) 0 in (
+      λ h.
+          let z = simp checks at h in
+          let each : (i : ℕ) → i < t .count → RuleFits g (ruleAt t i) × T (above t i) = λ i k. all .0 (z .1 .0) i (omega arith) (omega arith) in
+          record { count = z .0; each = λ r k. each r k .0; order = ascends t (t .count) .0 (λ i k. each i k .1) },
+      λ f.
+          let up = ascends t (t .count) .1 (f .order) in
+          let none = all .1 (λ i a b. let k : i < t .count = omega arith in (f .each i k, up i k)) in
+          simp checks (f .count, (none, refl)),
     )
 
 -- No mark that the list lacks, where the list is not too long.
-marks : (t : Thread) → t .count ≤ 64 → (markFault t ≡ 0) ↔ ((r : ℕ) → t .count ≤ r → r < 64 → heldAt t r ≡ false)
+marks : (t : Thread) → t .count ≤ 64
+    → (markFault (t .held) (t .count) ≡ 0) ↔ ((r : ℕ) → t .count ≤ r → r < 64 → heldAt t r ≡ false)
 unfolding markFault
 marks t h =
     let all : t .count + (64 - t .count) ≡ 64 = omega arith in
-    let each = rw all at (free t (64 - t .count) (t .count)) in
-    let none = passes 11 (freeFrom t (t .count) (64 - t .count)) refl in
+    let each = rw all at (free (t .held) (64 - t .count) (t .count)) in
+    let none = passes 11 (freeFrom (t .held) (t .count) (64 - t .count)) refl in
     (λ e. each .0 (none .0 e), λ f. none .1 (each .1 f))
 
--- A model is valid exactly if every used place of it is in range.
+-- A model is valid exactly if every used place of it is in range and its rules ascend.
 pub valid-fits : (m : Model) → Valid m ↔ Fits m
-unfolding faultOf headFault rangeFault firstOf
+unfolding faultOf headFault rangeFault marksFault firstOf
 valid-fits m = (
   λ h.
       let z = simp (checks, top) at h in
       let range = z .0 .0 in
       let head = z .0 .1 in
       let g = range .0 in
-      let a = thread (m .g) (g .0) (m .a) .0 (z .1 .0) in
-      let b = thread (m .g) (g .0) (m .b) .0 (z .1 .1 .0) in
-      let freeA = marks (m .a) (a .0) .0 (z .1 .1 .1 .0) in
-      let freeB = marks (m .b) (b .0) .0 (z .1 .1 .1 .1 .0) in
+      let a = thread (m .g) (m .a) .0 (z .1 .0) in
+      let b = thread (m .g) (m .b) .0 (z .1 .1 .0) in
+      let freeA = marks (m .a) (a .count) .0 (z .1 .1 .1 .0 .0) in
+      let freeB = marks (m .b) (b .count) .0 (z .1 .1 .1 .0 .1 .0) in
       record {
         g = g;
         k = range .1 .0;
         start = range .1 .1 .0;
         target = range .1 .1 .1 .0;
-        a = record { first = head .1 .1 .0; top = head .0; count = a .0; rules = a .1; free = freeA };
-        b = record { first = head .1 .1 .1 .0; top = head .1 .0; count = b .0; rules = b .1; free = freeB };
+        a = record { first = head .1 .1 .0; top = head .0; count = a .count; rules = a .each; order = a .order; free = freeA };
+        b = record { first = head .1 .1 .1 .0; top = head .1 .0; count = b .count; rules = b .each; order = b .order; free = freeB };
       },
   λ f.
-      let a = thread (m .g) (f .g .0) (m .a) .1 (f .a .count, f .a .rules) in
-      let b = thread (m .g) (f .g .0) (m .b) .1 (f .b .count, f .b .rules) in
+      let a = thread (m .g) (m .a) .1 (record { count = f .a .count; each = f .a .rules; order = f .a .order }) in
+      let b = thread (m .g) (m .b) .1 (record { count = f .b .count; each = f .b .rules; order = f .b .order }) in
       let freeA = marks (m .a) (f .a .count) .1 (f .a .free) in
       let freeB = marks (m .b) (f .b .count) .1 (f .b .free) in
       simp (checks, top)
-      (((f .g, (f .k, (f .start, (f .target, refl)))), (f .a .top, (f .b .top, (f .a .first, (f .b .first, refl))))), (a, (b, (freeA, (freeB, refl))))),
+      (((f .g, (f .k, (f .start, (f .target, refl)))), (f .a .top, (f .b .top, (f .a .first, (f .b .first, refl))))), (a, (b, ((freeA, (freeB, refl)), refl)))),
 )

@@ -1,7 +1,7 @@
--- Ranges: every used place of a model is in range. That is what validity comes to (a law), place by place.
+-- Ranges: every used place of a model is in range, and its rules ascend. That is what validity comes to (a law), place by place.
 use mathlib.Core.Bool.{false}
 use mathlib.Core.Path.{_≡_}
-use Prim.Native.Nat.{ℕ, _≤_, _<_}
+use Prim.Native.Nat.{ℕ, suc, _≤_, _<_}
 use Rattle.model.specs.declared.Model.{Model}
 use Rattle.model.specs.declared.Right.{Right}
 use Rattle.model.specs.declared.Right.the-variants.{Remove, Swap, Push}
@@ -9,6 +9,7 @@ use Rattle.model.specs.declared.Rule.{Rule}
 use Rattle.model.specs.declared.Thread.{Thread}
 use Rattle.model.specs.declared.Top.{Top}
 use Rattle.model.specs.declared.Top.the-variants.{Any, Named}
+use Rattle.model.specs.Order.{keyOf}
 use Rattle.model.specs.Rules.{ruleAt, heldAt}
 
 -- The symbols of a right side are at most 15.
@@ -29,15 +30,17 @@ abbrev pub TopFits : Top → Type 0
 TopFits Any = Unit {0}
 TopFits (Named s) = s .0 ≤ 15
 
--- A thread's first symbol, its top, its count and each of its rules are in range, and no rule number beyond its list is held.
+-- A thread's first symbol, its top, its count and each of its rules are in range, its rules ascend, and no rule number beyond its list is
+-- held.
 pub record ThreadFits (g : ℕ) (t : Thread) : Type 0 where
   pub first : t .first .0 ≤ 15
   pub top : TopFits (t .top)
   pub count : t .count ≤ 64
   pub rules : (r : ℕ) → r < t .count → RuleFits g (ruleAt t r)
+  pub order : (r : ℕ) → suc r < t .count → keyOf (ruleAt t r) < keyOf (ruleAt t (suc r))
   pub free : (r : ℕ) → t .count ≤ r → r < 64 → heldAt t r ≡ false
 
--- Every used place of a model is in range.
+-- Every used place of a model is in range, and its rules ascend.
 pub record Fits (m : Model) : Type 0 where
   pub g : (1 ≤ m .g) × (m .g ≤ 4)
   pub k : (1 ≤ m .k) × (m .k ≤ 3)

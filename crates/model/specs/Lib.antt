@@ -1,11 +1,13 @@
 pub mod Bits
 pub mod Fits
 pub mod Lines
+pub mod Order
 pub mod Results
 pub mod Rules
 pub mod Runs
 pub mod Schedules
 pub mod Tables
+pub mod UpToOrder
 pub mod Valid
 pub mod Verdict
 pub mod Walk

@@ -1,10 +1,10 @@
 -- Which models are valid, which refusal number a model handed in as values gets, and when two models are the same.
 use mathlib.Core.Bool.{Bool, true, not, _&&_}
-use mathlib.Core.List.{[], _∷_, map}
+use mathlib.Core.List.{List, [], _∷_}
 use mathlib.Core.Path.{_≡_}
 use Prim.Native.Nat.{ℕ, zero, suc, _-_, _<_}
 use lib.Dec.{leb, ltb}
-use lib.ListN.{length, take}
+use lib.ListN.{length}
 use Rattle.model.specs.declared.Model.{Model}
 use Rattle.model.specs.declared.Right.{Right}
 use Rattle.model.specs.declared.Right.the-variants.{Remove, Swap, Push}
@@ -13,8 +13,10 @@ use Rattle.model.specs.declared.Symbol.{Symbol}
 use Rattle.model.specs.declared.Thread.{Thread}
 use Rattle.model.specs.declared.Top.{Top}
 use Rattle.model.specs.declared.Top.the-variants.{Any, Named}
+use Rattle.model.specs.Bits.{bitAt}
+use Rattle.model.specs.Order.{above}
 use Rattle.model.specs.Results.{refuse, firstOf}
-use Rattle.model.specs.Rules.{ruleAt, heldAt}
+use Rattle.model.specs.Rules.{ruleAt}
 
 -- A top that is named is a symbol, so at most 15.
 unfoldable pub topFault : Top → ℕ
@@ -52,26 +54,34 @@ ruleFault g r =
     (refuse 4 (ltb (r .before .0) g) ∷ symbolFault (r .symbol) ∷ refuse 4 (ltb (r .after .0) g) ∷
     rightFault (r .right) ∷ [])
 
--- A thread has at most 64 rules, and each of them is in range; unused places are not looked at.
+-- The refusal number of n rules from number r on, each in turn: its own fault by 4, then 13 unless it is above the one before it.
+unfoldable pub rulesFault : ℕ → Thread → ℕ → ℕ → ℕ
+rulesFault g t r zero = 0
+rulesFault g t r (suc n) =
+    firstOf (ruleFault g (ruleAt t r) ∷ refuse 13 (above t r) ∷ rulesFault g t (suc r) n ∷ [])
+
+-- A thread has at most 64 rules, each of them is in range, and they ascend; unused places are not looked at.
 unfoldable pub threadFault : ℕ → Thread → ℕ
-threadFault g t =
-    firstOf (refuse 4 (leb (t .count) 64) ∷ firstOf (map (ruleFault g) (take (t .count) (t .rules))) ∷ [])
+threadFault g t = firstOf (refuse 4 (leb (t .count) 64) ∷ rulesFault g t 0 (t .count) ∷ [])
 
--- None of n rule numbers from r on is held.
-unfoldable pub freeFrom : Thread → ℕ → ℕ → Bool
-freeFrom t r zero = true
-freeFrom t r (suc n) = not (heldAt t r) && freeFrom t (suc r) n
+-- No mark stands on n rule numbers from r on.
+unfoldable pub freeFrom : List ℕ → ℕ → ℕ → Bool
+freeFrom marks r zero = true
+freeFrom marks r (suc n) = not (bitAt marks r) && freeFrom marks (suc r) n
 
--- A rule number that the thread's list lacks is not held: of 64, those from its count on.
-unfoldable pub markFault : Thread → ℕ
-markFault t = refuse 11 (freeFrom t (t .count) (64 - t .count))
+-- No mark stands on a rule number that a list of so many rules lacks: of 64, those from its count on.
+unfoldable pub markFault : List ℕ → ℕ → ℕ
+markFault marks count = refuse 11 (freeFrom marks count (64 - count))
 
--- The refusal number of a model handed in as values: its head by 3, then A's rules by 4, then B's by 4, then A's marks of held rules
--- by 11, then B's by 11; 0 for none.
+-- The marks of A, and then those of B.
+unfoldable pub marksFault : Model → ℕ
+marksFault m = firstOf (markFault (m .a .held) (m .a .count) ∷ markFault (m .b .held) (m .b .count) ∷ [])
+
+-- The refusal number of a model handed in as values: its head by 3, then A's rules by 4 and 13, then B's, then A's marks of held rules
+-- by 11, then B's; 0 for none.
 unfoldable pub faultOf : Model → ℕ
 faultOf m =
-    firstOf
-    (headFault m ∷ threadFault (m .g) (m .a) ∷ threadFault (m .g) (m .b) ∷ markFault (m .a) ∷ markFault (m .b) ∷ [])
+    firstOf (headFault m ∷ threadFault (m .g) (m .a) ∷ threadFault (m .g) (m .b) ∷ marksFault m ∷ [])
 
 -- The refusal of a call that fills a store: the model's fault, then 7 where a store has no room for what it must hold; 0
 -- for none.

@@ -2,8 +2,11 @@
 // What a model means (steps, runs, lines, verdicts) is defined in specs/.
 ghost use mathlib.Core.Path.{_≡_};
 ghost use Rattle.model.specs.Bits.{bitAt, allZero};
-ghost use Rattle.model.specs.Valid.{faultOf, headFault, rangeFault, topFault, threadFault, ruleFault, rightFault, symbolFault, markFault};
+ghost use Rattle.model.specs.Order.{keyOf};
+ghost use Rattle.model.specs.Valid.{faultOf, markFault};
 ghost use Rattle.model.specs.Lines.{tableBits};
+
+mod faults;
 
 // A shared state, 0 to G−1. Never a stack symbol, though both are numbered from 0.
 pub struct Shared(pub u8);
@@ -77,26 +80,44 @@ const LINE_BITS: [[u16; 3]; 4] = [[2, 4, 6], [6, 30, 126], [12, 120, 1092], [20,
 pub fn fault(m: Model) -> u8
     ensures { λ r. ⌜ r ≡ faultOf m ⌝ }
 {
-    let head = head_fault(m);
+    let head = faults::head_fault(m);
     if head != 0 {
         return head;
     }
     let g = m.g;
     let a = m.a;
-    let first = thread_fault(g, a);
+    let first = faults::thread_fault(g, a);
     if first != 0 {
         return first;
     }
     let b = m.b;
-    let second = thread_fault(g, b);
+    let second = faults::thread_fault(g, b);
     if second != 0 {
         return second;
     }
-    let third = mark_fault(a);
+    let marks_a = a.held;
+    let third = mark_fault(marks_a, a.count);
     if third != 0 {
         return third;
     }
-    mark_fault(b)
+    let marks_b = b.held;
+    mark_fault(marks_b, b.count)
+}
+
+// The key of a rule, by which the rules of a thread ascend.
+pub fn key(r: Rule) -> u32
+    ensures { λ n. ⌜ n ≡ keyOf r ⌝ }
+{
+    let before = r.before.0 as u32;
+    let symbol = r.symbol.0 as u32;
+    let after = r.after.0 as u32;
+    let high = ((before * 16 + symbol) * 16 + after) * 4096;
+    let x = r.right;
+    match x {
+        Right::Remove => high,
+        Right::Swap(a) => high + (256 + a.0 as u32 * 16),
+        Right::Push(a, b) => high + (512 + a.0 as u32 * 16 + b.0 as u32),
+    }
 }
 
 // Whether marks have rule r held; none beyond 63 is.
@@ -125,6 +146,23 @@ pub fn all_zero(marks: [u8; 8]) -> bool
     true
 }
 
+// Refusal 11 for a mark at a rule number that a list of `count` rules lacks, or 0.
+pub fn mark_fault(marks: [u8; 8], count: usize) -> u8
+    ensures { λ n. ⌜ n ≡ markFault marks count ⌝ }
+{
+    if all_zero(marks) {
+        return 0;
+    }
+    let mut r = count;
+    while r < 64 {
+        if is_held(marks, r) {
+            return 11;
+        }
+        r += 1;
+    }
+    0
+}
+
 // How many lines a model with these G and K has, or 0 where they are out of range.
 pub fn line_bits(g: u8, k: u8) -> u16
     ensures { λ r. ⌜ r ≡ tableBits g k ⌝ }
@@ -144,153 +182,4 @@ pub fn line_bits(g: u8, k: u8) -> u16
     let i = (g - 1) as usize;
     let j = (k - 1) as usize;
     LINE_BITS[i][j]
-}
-
-// Refusal 3 for a head field out of range: G, K and the two states, then the two tops, then the two first symbols.
-fn head_fault(m: Model) -> u8
-    ensures { λ r. ⌜ r ≡ headFault m ⌝ }
-{
-    let range = range_fault(m);
-    if range != 0 {
-        return range;
-    }
-    let a = m.a;
-    let top_a = a.top;
-    let first = top_fault(top_a);
-    if first != 0 {
-        return first;
-    }
-    let b = m.b;
-    let top_b = b.top;
-    let second = top_fault(top_b);
-    if second != 0 {
-        return second;
-    }
-    if 15 < m.a.first.0 {
-        return 3;
-    }
-    if 15 < m.b.first.0 {
-        return 3;
-    }
-    0
-}
-
-// Refusal 3 for G, K, the start or the target state out of range.
-fn range_fault(m: Model) -> u8
-    ensures { λ r. ⌜ r ≡ rangeFault m ⌝ }
-{
-    if m.g < 1 {
-        return 3;
-    }
-    if 4 < m.g {
-        return 3;
-    }
-    if m.k < 1 {
-        return 3;
-    }
-    if 3 < m.k {
-        return 3;
-    }
-    if m.g <= m.start.0 {
-        return 3;
-    }
-    if m.g <= m.target.0 {
-        return 3;
-    }
-    0
-}
-
-// Refusal 3 for a named top above 15.
-fn top_fault(t: Top) -> u8
-    ensures { λ n. ⌜ n ≡ topFault t ⌝ }
-{
-    match t {
-        Top::Any => 0,
-        Top::Named(s) => {
-            if 15 < s.0 {
-                return 3;
-            }
-            0
-        }
-    }
-}
-
-// Refusal 4 for a count above 64 or a rule out of range among the first `count`.
-fn thread_fault(g: u8, t: Thread) -> u8
-    ensures { λ r. ⌜ r ≡ threadFault g t ⌝ }
-{
-    let n = t.count;
-    if 64 < n {
-        return 4;
-    }
-    let mut i = 0;
-    while i < n {
-        let rule = t.rules[i];
-        let found = rule_fault(g, rule);
-        if found != 0 {
-            return found;
-        }
-        i += 1;
-    }
-    0
-}
-
-// Refusal 4 for a state not below G or a symbol above 15.
-fn rule_fault(g: u8, r: Rule) -> u8
-    ensures { λ n. ⌜ n ≡ ruleFault g r ⌝ }
-{
-    if g <= r.before.0 {
-        return 4;
-    }
-    if 15 < r.symbol.0 {
-        return 4;
-    }
-    if g <= r.after.0 {
-        return 4;
-    }
-    let x = r.right;
-    right_fault(x)
-}
-
-// Refusal 4 for a new symbol above 15.
-fn right_fault(x: Right) -> u8
-    ensures { λ n. ⌜ n ≡ rightFault x ⌝ }
-{
-    match x {
-        Right::Remove => 0,
-        Right::Swap(a) => symbol_fault(a),
-        Right::Push(a, b) => {
-            let first = symbol_fault(a);
-            if first != 0 {
-                return first;
-            }
-            symbol_fault(b)
-        }
-    }
-}
-
-// Refusal 4 for one symbol above 15.
-fn symbol_fault(a: Symbol) -> u8
-    ensures { λ n. ⌜ n ≡ symbolFault a ⌝ }
-{
-    if 15 < a.0 { 4 } else { 0 }
-}
-
-// Refusal 11 for a mark at a rule number that the thread's list lacks.
-fn mark_fault(t: Thread) -> u8
-    ensures { λ n. ⌜ n ≡ markFault t ⌝ }
-{
-    let marks = t.held;
-    if all_zero(marks) {
-        return 0;
-    }
-    let mut r = t.count;
-    while r < 64 {
-        let marks = t.held;
-        if is_held(marks, r) {
-            return 11;
-        }
-        r += 1;
-    }
-    0
 }

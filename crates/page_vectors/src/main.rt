@@ -108,14 +108,14 @@ fn by_hand() -> Tally {
     t.counted(looks(&deep_b, &[1; 56], b"deep_b.txt", &mut store))
 }
 
-// A model handed in with 65 rules is refused by 4.
-fn many_rules() -> bool {
+// Model Two, handed in with this count of A's rules, is refused with this number. The rules behind its own three are blank.
+fn counts_refused(count: usize, number: u8) -> bool {
     let reading = record::read(&vectors::TWO);
     let mut m = reading.model;
-    m.a.count = 65;
+    m.a.count = count;
     match page::page(m, &[0], &mut []) {
         Paged::Length(_) => false,
-        Paged::Refused(n) => n == 4,
+        Paged::Refused(n) => n == number,
     }
 }
 
@@ -130,14 +130,16 @@ fn unlisted_mark() -> bool {
     }
 }
 
-// What is refused before 7: a model that is none (3), one with too many rules (4) or an unlisted mark (11), and what replay refuses.
+// What is refused before 7: a model that is none (3), one with too many rules (4), with a rule that is not above the one before it (13) or
+// with an unlisted mark (11), and what replay refuses.
 fn refused() -> Tally {
     let two = vectors::TWO;
     let once = vectors::TWO_ONCE;
     let zeros = [0u8; 8192];
     let mut t = Tally::new();
     t = t.counted(refuses(&[], &[0], 3, &mut []));
-    t = t.counted(many_rules());
+    t = t.counted(counts_refused(65, 4));
+    t = t.counted(counts_refused(4, 13));
     t = t.counted(unlisted_mark());
     t = t.counted(refuses(&two, &[0], 8, &mut []));
     t = t.counted(refuses(&two, &zeros, 8, &mut []));

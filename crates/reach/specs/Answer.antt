@@ -13,7 +13,7 @@ abbrev pub answerOf : ℕ → Outcome
 answerOf zero = Done
 answerOf (suc n) = Refused (suc n)
 
--- The answer, by the length of the store: the model's fault (3, 4), then 7 for a store with too few bits, or done.
+-- The answer, by the length of the store: the model's fault (3, 4, 13 or 11), then 7 for a store with too few bits, or done.
 abbrev pub outcomeOf : Model → ℕ → Outcome
 outcomeOf m size = answerOf (storeRefusal m (tableFits m size))
 

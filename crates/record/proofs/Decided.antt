@@ -1,4 +1,4 @@
--- 669 bytes decide the answer to a record, and a record is refused by a number from 1 to 6 or by 11, at the front of any bytes not by
+-- 669 bytes decide the answer to a record, and a record is refused by a number from 1 to 6, by 11 or by 13, at the front of any bytes not by
 -- 6: every part of the reader is steady, part by part, and a record takes at most 668 bytes.
 use mathlib.Core.Bool.{Bool, true, false, not}
 use mathlib.Core.List.{List, [], _∷_, _++_}
@@ -6,17 +6,18 @@ use mathlib.Core.Path.{_≡_, refl}
 use Prim.Native.Nat.{ℕ, zero, suc, _-_, _*_, _/_, _≤_, _<_, zero-le}
 use native.Mathlib.Decide.{decLt}
 use native.Mathlib.Omega.{arith}
-use lib.Dec.{ltb, eqb}
+use lib.Dec.{leb, ltb, eqb}
 use lib.ListN.{length, take, drop, take-append-drop, length-append, length-drop}
 use lib.Seq.{take-all, length-take-le, take-append-le, drop-append-le}
 use borrow.Author.Tests.{le-leb, lt-leb}
 use Rattle.model.specs.declared.Model.{Model}
 use Rattle.model.specs.Bits.{bit, allZero}
+use Rattle.model.specs.Order.{keyOf}
 use Rattle.model.specs.Results.{refused, accepted, need, unless, refuse, firstOf}
-use Rattle.model.specs.Valid.{freeFrom, markFault}
+use Rattle.model.specs.Valid.{freeFrom, markFault, marksFault}
 use Rattle.record.specs.Reader.{Read, andRead, inRange, parseRanged, parseField, ruleMap, parseRight, parseRule}
 use Rattle.record.specs.Reader.{announces, stateOf, parseTarget, parseTop, parseMarks, parseSecond}
-use Rattle.record.specs.Reader.{parseRuleList, parseRules, parseHead, modelOf, marksFault, marksListed, parseFront, ended, readOf}
+use Rattle.record.specs.Reader.{parseRuleList, parseRules, parseHead, modelOf, marksListed, parseFront, ended, readOf, Refuses}
 use Rattle.record.proofs.OneField.{field-forth}
 use Rattle.record.proofs.Steady.{Low, Takes, before, Steady, none, one, tested, wider, chained}
 
@@ -32,6 +33,9 @@ four = omega arith
 
 five : Low 5
 five = omega arith
+
+thirteen : Low 13
+thirteen = omega arith
 
 ranged : (k low limit : ℕ) → Low k → Steady 1 (parseRanged k low limit)
 unfolding parseRanged
@@ -58,18 +62,20 @@ rule g =
     (chained (field (bit 0 map) 4 0 g (pair / 16) four) λ bs next rest e.
     chained (right (bit 1 map) (bit 2 map)) λ bs new rest e. none _))
 
-list : (g n : ℕ) → Steady (n * 5) (parseRuleList g n)
+list : (g least n : ℕ) → Steady (n * 5) (parseRuleList g least n)
 unfolding parseRuleList
-list g zero = none []
-list g (suc n) =
-    wider (omega arith) (chained (rule g) λ bs r rest e. chained (list g n) λ bs rs rest e. none _)
+list g least zero = none []
+list g least (suc n) =
+    wider (omega arith)
+    (chained (rule g) λ bs r rest e.
+    tested 13 (leb least (keyOf r)) thirteen (chained (list g (suc (keyOf r)) n) λ bs rs rest e. none _))
 
 rules : (present : Bool) (g : ℕ) → Steady 321 (parseRules present g)
 unfolding parseRules
 rules present g =
     chained {k = 320} (field present 4 0 65 0 four) λ bs n rest e.
     let low = field-forth present 4 0 65 0 bs zero-le (omega arith) e .most in
-    wider (omega arith) (list g n)
+    wider (omega arith) (list g 0 n)
 
 target : (g : ℕ) → Steady 1 (parseTarget g)
 unfolding parseTarget
@@ -129,7 +135,7 @@ head =
 -- Marks on rules that a list lacks are refused by 11, ..
 marks-refusal : (m : Model) → 0 < marksFault m → marksFault m ≡ 11
 unfolding marksFault markFault firstOf
-marks-refusal m = go (freeFrom (m .a) (m .a .count) (64 - m .a .count)) (freeFrom (m .b) (m .b .count) (64 - m .b .count))
+marks-refusal m = go (freeFrom (m .a .held) (m .a .count) (64 - m .a .count)) (freeFrom (m .b .held) (m .b .count) (64 - m .b .count))
   where
     go : (a b : Bool) → 0 < firstOf (refuse 11 a ∷ refuse 11 b ∷ []) → firstOf (refuse 11 a ∷ refuse 11 b ∷ []) ≡ 11
     go true true h = absurd (omega arith)
@@ -157,12 +163,12 @@ pub front-refusal : (bs : List ℕ) {n : ℕ} → parseFront bs ≡ refused n �
 front-refusal bs {n} e = rw e at (front .takes bs)
 
 -- .. and of a whole one.
-pub record-refusal : (bs : List ℕ) {n : ℕ} → readOf bs ≡ refused n → (1 ≤ n) × (n ≤ 11) × (6 < n → n ≡ 11)
+pub record-refusal : (bs : List ℕ) {n : ℕ} → readOf bs ≡ refused n → Refuses 6 n
 unfolding readOf
 record-refusal bs {n} = go (parseFront bs) (front .takes bs)
   where
-    go : (r : Read Model) → Takes (length bs) 668 r → andRead r ended ≡ refused n → (1 ≤ n) × (n ≤ 11) × (6 < n → n ≡ 11)
-    go (refused k) t e = let same : k ≡ n = cc in let low = rw same at t in (low .0, low .1, λ h. low .2 (omega arith))
+    go : (r : Read Model) → Takes (length bs) 668 r → andRead r ended ≡ refused n → Refuses 6 n
+    go (refused k) t e = let same : k ≡ n = cc in let low = rw same at t in (low .0, low .1, λ h. low .2 (omega arith), low .3)
     go (accepted (m, [])) t e = let z : _≡_ {A = ℕ} 0 1 = cc in absurd (omega arith)
     go (accepted (m, b ∷ rest)) t e = let six : _≡_ {A = ℕ} 6 n = cc in omega arith
 

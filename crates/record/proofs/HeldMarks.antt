@@ -12,12 +12,14 @@ use borrow.Author.Tests.{le-leb}
 use Rattle.model.specs.declared.Model.{Model}
 use Rattle.model.specs.declared.Thread.{Thread}
 use Rattle.model.specs.Bits.{allZero}
+use Rattle.model.specs.Order.{above}
 use Rattle.model.specs.Results.{accepted, firstOf}
-use Rattle.model.specs.Valid.{Valid, faultOf, headFault, rangeFault, threadFault, freeFrom, markFault}
-use Rattle.model.proofs.Marks.{free, no-bit}
+use Rattle.model.specs.Valid.{Valid, faultOf, headFault, rangeFault, rulesFault, threadFault, markFault, marksFault}
+use Rattle.model.proofs.Checks.{closes}
+use Rattle.model.proofs.Marks.{all-free}
 use Rattle.model.proofs.Results.{checked}
-use Rattle.model.proofs.Tests.{both, order, equal, passed, failed}
-use Rattle.record.specs.Reader.{noMarks, parseMarks, marksFault}
+use Rattle.model.proofs.Tests.{both, order, equal, failed}
+use Rattle.record.specs.Reader.{noMarks, parseMarks}
 use Rattle.writer.specs.Writer.{heldBytes}
 use Rattle.record.proofs.OneField.{carried}
 
@@ -97,20 +99,18 @@ skips (suc x) y z ms ns e = absurd (omega arith)
 
 -- A valid model has no fault of marks.
 pub valid-marks : (m : Model) → Valid m → marksFault m ≡ 0
-unfolding faultOf marksFault
-valid-marks m v = sym (skips (headFault m) (threadFault (m .g) (m .a)) (threadFault (m .g) (m .b)) _ _ v) ∙ v
+unfolding faultOf
+valid-marks m v = closes refl ∙ (sym (skips (headFault m) (threadFault (m .g) (m .a)) (threadFault (m .g) (m .b)) _ _ v) ∙ v)
 
 -- Marks of which none stands are on no rule that a list lacks ..
-no-fault : (t : Thread) → allZero (t .held) ≡ true → markFault t ≡ 0
+no-fault : (marks : List ℕ) (count : ℕ) → allZero marks ≡ true → markFault marks count ≡ 0
 unfolding markFault
-no-fault t z =
-    let none = free t (64 - t .count) (t .count) .1 (λ i l u. no-bit (t .held) (rw z tt) i) in
-    rw (passed (freeFrom t (t .count) (64 - t .count)) none)
+no-fault marks count z = rw (all-free marks count z)
 
 -- .. so a model without marks has no fault of them.
 pub unheld : (m : Model) → allZero (m .a .held) ≡ true → allZero (m .b .held) ≡ true → marksFault m ≡ 0
 unfolding marksFault firstOf
-unheld m a b = rw (no-fault (m .a) a, no-fault (m .b) b)
+unheld m a b = rw (no-fault (m .a .held) (m .a .count) a, no-fault (m .b .held) (m .b .count) b)
 
 -- A thread without its marks ..
 abbrev unmarkedThread : Thread → Thread
@@ -128,7 +128,16 @@ unmarked m =
       b = unmarkedThread (m .b);
     }
 
+-- The rules of a thread are at fault or not without its marks as with them.
+unmarked-rules : (n g : ℕ) (t : Thread) (r : ℕ) → rulesFault g (unmarkedThread t) r n ≡ rulesFault g t r n
+unfolding rulesFault above
+unmarked-rules zero g t r = refl
+unmarked-rules (suc n) g t zero = rw (unmarked-rules n g t 1)
+unmarked-rules (suc n) g t (suc r) = rw (unmarked-rules n g t (suc (suc r)))
+
 -- A model that is valid without its marks has no other fault than theirs.
 pub only-marks : (m : Model) → Valid (unmarked m) → faultOf m ≡ marksFault m
-unfolding faultOf headFault rangeFault threadFault marksFault
-only-marks m v = skips (headFault m) (threadFault (m .g) (m .a)) (threadFault (m .g) (m .b)) _ _ v
+unfolding faultOf headFault rangeFault threadFault
+only-marks m v =
+    let rules = rw (unmarked-rules (m .a .count) (m .g) (m .a) 0, unmarked-rules (m .b .count) (m .g) (m .b) 0) at v in
+    skips (headFault m) (threadFault (m .g) (m .a)) (threadFault (m .g) (m .b)) _ _ rules ∙ sym (closes refl)

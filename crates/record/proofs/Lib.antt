@@ -1,5 +1,6 @@
 pub mod Answers
 pub mod Decided
+pub mod Files
 pub mod Fronts
 pub mod Heads
 pub mod HeldMarks

@@ -1,36 +1,47 @@
--- Older records mean what they meant. The older reader and this one go the same way up to the target byte. Below 128 that is a state
--- without a second map, and both go on alike, since a thread without marks has none that its list lacks; from 128 on the older reader
--- refuses it by 3. An accepted record names a top or holds a rule exactly if its second map is announced.
+-- Older records mean what they meant, or are refused by 13. The older reader and this one go the same way up to the target byte. Below 128
+-- that is a state without a second map, and both go on alike, since a thread without marks has none that its list lacks, until a rule is
+-- not above the one before it; from 128 on the older reader refuses it by 3. So what the older reader took for a valid model is still read
+-- as that model. An accepted record names a top or holds a rule exactly if its second map is announced.
 use mathlib.Core.Bool.{Bool, true, false, not, true≢false}
 use mathlib.Core.List.{List, [], _∷_}
-use mathlib.Core.Logic.{_↔_}
+use mathlib.Core.Logic.{_↔_, _⊎_, inl, inr}
 use mathlib.Core.Path.{_≡_, refl, sym, ap, _∙_}
-use Prim.Native.Nat.{ℕ, _≤_, _<_, zero-le}
+use Prim.Native.Nat.{ℕ, zero, suc, _-_, _≤_, _<_, zero-le}
 use native.Mathlib.Decide.{decLt}
 use native.Mathlib.Nat.{add-zero}
 use native.Mathlib.Omega.{arith}
-use lib.Dec.{eqb}
-use lib.ListN.{length, getD}
+use lib.Dec.{leb, eqb}
+use lib.ListN.{length, getD, replicate}
+use lib.Seq.{take-append-seam}
 use borrow.Author.Tests.{le-leb, lt-leb, le-ltb, lt-ltb}
 use Rattle.model.specs.declared.Model.{Model}
+use Rattle.model.specs.declared.Rule.{Rule}
 use Rattle.model.specs.declared.Top.{Top}
 use Rattle.model.specs.declared.Top.the-variants.{Any, Named}
 use Rattle.model.specs.Bits.{bit, allZero}
+use Rattle.model.specs.Fits.{ThreadFits}
+use Rattle.model.specs.Order.{keyOf}
 use Rattle.model.specs.Results.{refused, accepted, need}
+use Rattle.model.specs.Rules.{zeroRule}
+use Rattle.model.specs.Valid.{Valid, marksFault}
+use Rattle.model.proofs.Ranges.{valid-fits}
 use Rattle.model.proofs.Results.{apart, checked}
 use Rattle.model.proofs.Tests.{equal}
-use Rattle.record.specs.Older.{noSecond, olderHeadRest, olderFront, targetByte, NoSecond}
-use Rattle.record.specs.Reader.{Read, andRead, parseByte, parseRanged, parseField, parseRules, Head, parseFirsts, headBy, parseHead}
+use Rattle.record.specs.Older.{noSecond, olderHeadRest, olderRuleList, olderRules, olderFront, targetByte, NoSecond}
+use Rattle.record.specs.Reader.{Read, andRead, parseByte, parseRanged, parseField, parseRule, parseRuleList, parseRules}
+use Rattle.record.specs.Reader.{Head, parseFirsts, headBy, parseHead, threadFrom}
 use Rattle.record.specs.Reader.{announces, stateOf, parseTarget, parseTop, noMarks, parseMarks, parseSecond}
 use Rattle.record.specs.Reader.{modelOf, modelBy, marksListed, parseFront, readOf}
-use Rattle.writer.specs.Writer.{fieldOf, weightOf, heldBytes, Second, secondOf, secondMap, secondFields, targetBytes}
+use Rattle.writer.specs.Writer.{fieldOf, weightOf, heldBytes, Extra, Second, secondOf, secondMap, secondFields, targetBytes}
 use Rattle.record.proofs.Heads.{target-place}
 use Rattle.record.proofs.HeldMarks.{no-marks, unheld}
 use Rattle.record.proofs.Maps.{named, second-bits}
 use Rattle.record.proofs.OneField.{parted, carried, byte-forth, field-forth}
 use Rattle.record.proofs.Records.{front-forth, whole-front}
+use Rattle.record.proofs.RuleLists.{RulesFit}
+use Rattle.record.proofs.ThreadRules.{thread-list}
 
--- How two readings may compare where a byte may be high: the same, and then refused if it is; or the byte is high, and the older
+-- How two readings of a head may compare where a byte may be high: the same, and then refused if it is; or the byte is high, and the older
 -- reading refused by 3.
 data Alike {A : Type 0} (High : Type 0) (older newer : Read A) : Type 0 where
   same : older ≡ newer → (High → (n : ℕ) × (newer ≡ refused n)) → Alike High older newer
@@ -48,19 +59,6 @@ tested : {A High : Type 0} (n : ℕ) (test : Bool) {older newer : Read A} → Al
 tested n true x = x
 tested n false x = same refl (λ h. (n, refl))
 
--- One part, and then what comes to the same after it.
-agree : {A B : Type 0} (r : Read A) {f g : A → List ℕ → Read B}
-    → ((a : A) (rest : List ℕ) → r ≡ accepted (a, rest) → f a rest ≡ g a rest) → andRead r f ≡ andRead r g
-agree (refused n) k = refl
-agree (accepted (a, rest)) k = k a rest refl
-
--- What follows both, and comes to the same after what the older one read.
-follows : {A B High : Type 0} {older newer : Read A} {f g : A → List ℕ → Read B} → Alike High older newer
-    → ((a : A) (rest : List ℕ) → older ≡ accepted (a, rest) → f a rest ≡ g a rest) → Alike High (andRead older f) (andRead newer g)
-follows {older = older} {g = g} (same e k) j =
-    same (agree older j ∙ ap (λ r. andRead r g) e) (λ h. let z = k h in (z .0, rw (z .1)))
-follows (apart-by-3 h e) j = apart-by-3 h (rw e)
-
 -- The target: a state that is a whole byte, or with the second map that the byte announces.
 target-alike : (g : ℕ) → g ≤ 4 → (bs : List ℕ) (next : ℕ → Second → List ℕ → Read Head)
     → Alike (128 ≤ getD bs 0 0) (andRead (parseRanged 3 0 g bs) (λ q rest. next q noSecond rest))
@@ -76,6 +74,21 @@ target-alike g h (b ∷ rest) next = elim (decLt b 128) [
   | no k ↦ apart-by-3 (omega arith) (rw (le-leb 0 b zero-le, le-ltb b g (omega arith)))
 ]
 
+-- The two readings of a head.
+head-alike : (bs : List ℕ) → Alike (128 ≤ targetByte bs) (headBy olderHeadRest bs) (parseHead bs)
+unfolding parseHead
+head-alike bs =
+    after (parseByte bs) λ map m₁ e₁.
+    tested 2 (bit 3 map)
+    (after (parseField (bit 0 map) 3 1 5 4 m₁) λ g m₂ e₂.
+    after (parseField (bit 1 map) 3 1 4 2 m₂) λ k m₃ e₃.
+    after (parseField (bit 2 map) 3 0 g 0 m₃) λ start m₄ e₄.
+    let fg = field-forth (bit 0 map) 3 1 5 4 m₁ (omega arith) (omega arith) e₂ in
+    let fk = field-forth (bit 1 map) 3 1 4 2 m₂ (omega arith) (omega arith) e₃ in
+    let fs = field-forth (bit 2 map) 3 0 g 0 m₃ zero-le (fg .least) e₄ in
+    rw (target-place (byte-forth bs e₁) fg fk fs)
+    (target-alike g (omega (arith, fg .most)) m₄ (parseFirsts map g k start)))
+
 -- The older reader takes no second map for read.
 older-second : (bs : List ℕ) {h : Head} {rest : List ℕ} → headBy olderHeadRest bs ≡ accepted (h, rest) → h .second ≡ noSecond
 older-second bs e =
@@ -88,38 +101,99 @@ older-second bs e =
     parted (parseField (bit 4 map) 3 0 16 0 m₅) _ e₆ λ a m₆ b₆ e₇.
     parted (parseField (bit 5 map) 3 0 16 0 m₆) _ e₇ λ b m₇ b₇ e₈. carried (λ h rest. h .second ≡ noSecond) e₈ refl
 
--- So both go on alike after the head.
-model-alike : (h : Head) → h .second ≡ noSecond → (bs : List ℕ) → modelBy (λ m rest. accepted (m, rest)) h bs ≡ modelBy marksListed h bs
+-- So no mark stands that its list lacks.
+unlisted : (h : Head) (ra rb : List Rule) → h .second ≡ noSecond → marksFault (modelOf h ra rb) ≡ 0
 unfolding allZero
-model-alike h e bs =
-    agree (parseRules (bit 6 (h .map)) (h .g) bs) λ ra m₁ e₁.
-    agree (parseRules (bit 7 (h .map)) (h .g) m₁) λ rb m₂ e₂. rw (unheld (modelOf h ra rb) (rw e) (rw e))
+unlisted h ra rb e = unheld (modelOf h ra rb) (rw e) (rw e)
 
--- The two readers.
-front-alike : (bs : List ℕ) → Alike (128 ≤ targetByte bs) (olderFront bs) (parseFront bs)
-unfolding olderFront parseFront parseHead
-front-alike bs =
-    follows
-    (after (parseByte bs) λ map m₁ e₁.
-    tested 2 (bit 3 map)
-    (after (parseField (bit 0 map) 3 1 5 4 m₁) λ g m₂ e₂.
-    after (parseField (bit 1 map) 3 1 4 2 m₂) λ k m₃ e₃.
-    after (parseField (bit 2 map) 3 0 g 0 m₃) λ start m₄ e₄.
-    let fg = field-forth (bit 0 map) 3 1 5 4 m₁ (omega arith) (omega arith) e₂ in
-    let fk = field-forth (bit 1 map) 3 1 4 2 m₂ (omega arith) (omega arith) e₃ in
-    let fs = field-forth (bit 2 map) 3 0 g 0 m₃ zero-le (fg .least) e₄ in
-    rw (target-place (byte-forth bs e₁) fg fk fs)
-    (target-alike g (omega (arith, fg .most)) m₄ (parseFirsts map g k start))))
-    (λ h rest e. model-alike h (older-second bs e) rest)
+-- Read as before, or refused for the order of rules.
+abbrev OrUnordered : {A : Type 0} → Read A → Read A → Type 0
+OrUnordered older newer = (newer ≡ older) ⊎ (newer ≡ refused 13)
 
--- A record whose target byte is below 128, so has bit 7 clear, is read as it was.
-pub as-before : (bs : List ℕ) → targetByte bs < 128 → parseFront bs ≡ olderFront bs
-as-before bs h = elim (front-alike bs) [ same e k ↦ sym e | apart-by-3 k e ↦ absurd (omega arith) ]
+-- One part, and then another.
+goes-on : {A B : Type 0} (older : Read A) {newer : Read A} {f g : A → List ℕ → Read B} → OrUnordered older newer
+    → ((a : A) (rest : List ℕ) → older ≡ accepted (a, rest) → OrUnordered (f a rest) (g a rest))
+    → OrUnordered (andRead older f) (andRead newer g)
+goes-on older (inr e) k = inr (rw e)
+goes-on (refused n) (inl e) k = inl (rw e)
+goes-on (accepted (a, rest)) {g = g} (inl e) k = rw e (k a rest refl)
+
+-- A test that only the newer reader makes.
+above-or : {A : Type 0} (test : Bool) {older newer : Read A} → OrUnordered older newer → OrUnordered older (need 13 test newer)
+above-or true x = x
+above-or false x = inr refl
+
+-- A list of rules, ..
+list-or : (g least n : ℕ) (bs : List ℕ) → OrUnordered (olderRuleList g n bs) (parseRuleList g least n bs)
+unfolding olderRuleList parseRuleList
+list-or g least zero bs = inl refl
+list-or g least (suc n) bs =
+    goes-on (parseRule g bs) (inl refl) λ r rest e.
+    above-or (leb least (keyOf r))
+    (goes-on (olderRuleList g n rest) (list-or g (suc (keyOf r)) n rest) λ rs rest e. inl refl)
+
+-- .. with its count, ..
+rules-or : (present : Bool) (g : ℕ) (bs : List ℕ) → OrUnordered (olderRules present g bs) (parseRules present g bs)
+unfolding olderRules parseRules
+rules-or present g bs = goes-on (parseField present 4 0 65 0 bs) (inl refl) (λ n rest e. list-or g 0 n rest)
+
+-- .. and what comes after the head.
+model-or : (h : Head) → h .second ≡ noSecond → (bs : List ℕ)
+    → OrUnordered (modelBy olderRules (λ m rest. accepted (m, rest)) h bs) (modelBy parseRules marksListed h bs)
+model-or h s bs =
+    goes-on (olderRules (bit 6 (h .map)) (h .g) bs) (rules-or (bit 6 (h .map)) (h .g) bs) λ ra m₁ e₁.
+    goes-on (olderRules (bit 7 (h .map)) (h .g) m₁) (rules-or (bit 7 (h .map)) (h .g) m₁) λ rb m₂ e₂. inl (rw (unlisted h ra rb s))
+
+-- A record whose target byte is below 128, so has bit 7 clear, is read as it was, or refused for the order of its rules.
+pub as-before : (bs : List ℕ) → targetByte bs < 128 → (parseFront bs ≡ olderFront bs) ⊎ (parseFront bs ≡ refused 13)
+unfolding olderFront parseFront
+as-before bs h = elim (head-alike bs) [
+  | same e k ↦ goes-on (headBy olderHeadRest bs) (inl (sym e)) (λ h rest b. model-or h (older-second bs b) rest)
+  | apart-by-3 k e ↦ absurd (omega arith)
+]
+
+-- Rules that ascend are read as they were: as a list, ..
+list-kept : (g least n : ℕ) (bs : List ℕ) {rs : List Rule} {rest : List ℕ} → olderRuleList g n bs ≡ accepted (rs, rest)
+    → RulesFit g least rs → parseRuleList g least n bs ≡ accepted (rs, rest)
+unfolding olderRuleList parseRuleList
+list-kept g least zero bs e = λ f. e
+list-kept g least (suc n) bs e =
+    parted (parseRule g bs) _ e λ r m₁ b₁ e₁.
+    parted (olderRuleList g n m₁) _ e₁ λ rs m₂ b₂ e₂.
+    carried (λ rs rest. RulesFit g least rs → parseRuleList g least (suc n) bs ≡ accepted (rs, rest)) e₂
+    (λ f. rw (b₁, le-leb _ _ (f .1), list-kept g (suc (keyOf r)) n m₁ b₂ (f .2)))
+
+-- .. with its count, where the thread that they make is in range.
+rules-kept : (present : Bool) (g : ℕ) (bs : List ℕ) (first : ℕ) (x : Extra) {rs : List Rule} {rest : List ℕ}
+    → olderRules present g bs ≡ accepted (rs, rest) → ThreadFits g (threadFrom first x rs) → parseRules present g bs ≡ accepted (rs, rest)
+unfolding olderRules parseRules
+rules-kept present g bs first x {rs} e f =
+    let up = rw (take-append-seam rs (replicate (64 - length rs) zeroRule)) at (thread-list g (threadFrom first x rs) f) in
+    parted (parseField present 4 0 65 0 bs) _ e λ n mid b r. rw b (list-kept g 0 n mid r up)
+
+-- So a record that the older reader takes for a valid model is read as that model, with the same rest.
+pub still-read : (bs : List ℕ) {m : Model} {rest : List ℕ} → olderFront bs ≡ accepted (m, rest) → Valid m
+    → parseFront bs ≡ accepted (m, rest)
+unfolding olderFront parseFront
+still-read bs e =
+    parted (headBy olderHeadRest bs) _ e λ h m₁ b₁ e₁.
+    parted (olderRules (bit 6 (h .map)) (h .g) m₁) _ e₁ λ ra m₂ b₂ e₂.
+    parted (olderRules (bit 7 (h .map)) (h .g) m₂) _ e₂ λ rb m₃ b₃ e₃.
+    carried (λ m rest. Valid m → parseFront bs ≡ accepted (m, rest)) e₃ λ v.
+    let f = valid-fits (modelOf h ra rb) .0 v in
+    let head : parseHead bs ≡ accepted (h, m₁) = elim (head-alike bs) [ same s k ↦ sym s ∙ b₁ | apart-by-3 k s ↦ apart (sym s ∙ b₁) ] in
+    let rules-a = rules-kept (bit 6 (h .map)) (h .g) m₁ (h .a) (h .second .a) b₂ (f .a) in
+    let rules-b = rules-kept (bit 7 (h .map)) (h .g) m₂ (h .b) (h .second .b) b₃ (f .b) in
+    rw (head, rules-a, rules-b, unlisted h ra rb (older-second bs b₁))
 
 -- An accepted record with bit 7 is refused by 3 by the older reader.
 pub newer-refused : (bs : List ℕ) {m : Model} {rest : List ℕ} → parseFront bs ≡ accepted (m, rest) → 128 ≤ targetByte bs
     → olderFront bs ≡ refused 3
-newer-refused bs r h = elim (front-alike bs) [ same e k ↦ apart (sym (k h .1) ∙ r) | apart-by-3 k e ↦ e ]
+unfolding olderFront parseFront
+newer-refused bs r h = elim (head-alike bs) [
+  | same e k ↦ parted (parseHead bs) _ r λ hd mid b f. apart (sym (k h .1) ∙ b)
+  | apart-by-3 k e ↦ rw e
+]
 
 -- A top that is not named is any ..
 any : (t : Top) → false ≡ named t → t ≡ Any

@@ -14,14 +14,14 @@ use Rattle.model.specs.declared.Thread.{Thread}
 use Rattle.model.specs.Bits.{bit}
 use Rattle.model.specs.Results.{refused, accepted}
 use Rattle.model.specs.Rules.{zeroRule}
-use Rattle.model.specs.Valid.{Valid, faultOf, SameThread, Same, Places}
+use Rattle.model.specs.Valid.{Valid, faultOf, marksFault, SameThread, Same, Places}
 use Rattle.model.proofs.Alike.{same-valid}
 use Rattle.model.proofs.Ranges.{valid-fits}
 use Rattle.model.proofs.Results.{apart, undue}
 use Rattle.record.specs.declared.Reading.{Reading}
 use Rattle.record.specs.Kept.{Unused, Kept, Keeps}
 use Rattle.record.specs.Held.{readingOf}
-use Rattle.record.specs.Reader.{Read, announces, parseRules, Head, parseHead, threadFrom, modelOf, marksFault, parseFront, ended, readOf}
+use Rattle.record.specs.Reader.{Read, announces, parseRules, Head, parseHead, threadFrom, modelOf, parseFront, ended, readOf}
 use Rattle.record.specs.Older.{targetByte}
 use Rattle.record.specs.Written.{ReadsBack}
 use Rattle.writer.specs.Writer.{weightOf, rulesOf, mapOf, secondOf, secondMap, headBytes, recordOf}
@@ -118,12 +118,6 @@ parts-fault {h = h} {ra} {rb} hd a b =
       a = thread-fits (h .g) (h .a) (h .second .a .top) ra (hd .first) (hd .extraA .top) (a .most) (a .fits);
       b = thread-fits (h .g) (h .b) (h .second .b .top) rb (hd .second) (hd .extraB .top) (b .most) (b .fits);
     }))
-
--- The same by what was parsed.
-pub parsed-fault : (bs : List ℕ) {m₁ m₂ rest : List ℕ} {h : Head} {ra rb : List Rule} → parseHead bs ≡ accepted (h, m₁)
-    → parseRules (bit 6 (h .map)) (h .g) m₁ ≡ accepted (ra, m₂) → parseRules (bit 7 (h .map)) (h .g) m₂ ≡ accepted (rb, rest)
-    → faultOf (modelOf h ra rb) ≡ marksFault (modelOf h ra rb)
-parsed-fault bs e a b = parts-fault (head-forth bs e) (rules-forth _ _ _ a) (rules-forth _ _ _ b)
 
 -- Head and rules that were read make the record, where no mark is at fault.
 front-made : {bs m₁ m₂ rest : List ℕ} {h : Head} {ra rb : List Rule} → HeadRead bs h m₁

@@ -1,19 +1,20 @@
 -- Rules both ways: the bytes of a rule in range are read as that rule, and a rule that was read was written so; then by
--- induction for lists of rules.
+-- induction for lists of rules that ascend.
 use mathlib.Core.Bool.{Bool, true, false, cond}
 use mathlib.Core.List.{List, [], _∷_, _++_, append-assoc}
 use mathlib.Core.Path.{_≡_, refl, ap}
 use Prim.Native.Nat.{ℕ, zero, suc, _+_, _*_, _/_, _%_, _≤_, _<_, zero-le}
 use native.Mathlib.Nat.{div-add-mod'}
 use native.Mathlib.Omega.{arith}
-use lib.Dec.{T, ltb, eqb}
+use lib.Dec.{T, leb, ltb, eqb}
 use lib.ListN.{length}
-use borrow.Author.Tests.{lt-ltb}
+use borrow.Author.Tests.{le-leb, lt-ltb}
 use Rattle.model.specs.declared.Right.{Right}
 use Rattle.model.specs.declared.Right.the-variants.{Remove, Swap, Push}
 use Rattle.model.specs.declared.Rule.{Rule}
 use Rattle.model.specs.Bits.{bit}
 use Rattle.model.specs.Fits.{RightFits, RuleFits}
+use Rattle.model.specs.Order.{keyOf}
 use Rattle.model.specs.Results.{accepted}
 use Rattle.model.proofs.Results.{checked}
 use Rattle.model.proofs.Tests.{order}
@@ -115,38 +116,44 @@ rule-forth g bs {r} {rest} e =
     (rule-made (byte-forth bs b₁) t (byte-forth m₁ b₂) low (field-forth (bit 0 map) 4 0 g (pair / 16) m₂ zero-le low b₃)
     (right-forth (bit 1 map) (bit 2 map) m₃ b₄))
 
--- All rules of a list are in range.
-abbrev pub RulesFit : ℕ → List Rule → Type 0
-RulesFit g [] = Unit {0}
-RulesFit g (r ∷ rs) = RuleFits g r × RulesFit g rs
+-- All rules of a list are in range, and they ascend, with keys from `least` on.
+abbrev pub RulesFit : ℕ → ℕ → List Rule → Type 0
+RulesFit g least [] = Unit {0}
+RulesFit g least (r ∷ rs) = RuleFits g r × (least ≤ keyOf r) × RulesFit g (suc (keyOf r)) rs
 
 -- A list of rules that is written is read.
-pub list-back : (g : ℕ) (rs : List Rule) → RulesFit g rs → (rest : List ℕ)
-    → parseRuleList g (length rs) (ruleListOf rs ++ rest) ≡ accepted (rs, rest)
+pub list-back : (g least : ℕ) (rs : List Rule) → RulesFit g least rs → (rest : List ℕ)
+    → parseRuleList g least (length rs) (ruleListOf rs ++ rest) ≡ accepted (rs, rest)
 unfolding parseRuleList ruleListOf
-list-back g [] f rest = refl
-list-back g (r ∷ rs) f rest =
-    rw (append-assoc (ruleBytes r) (ruleListOf rs) rest, rule-back g r (f .0) (ruleListOf rs ++ rest), list-back g rs (f .1) rest)
+list-back g least [] f rest = refl
+list-back g least (r ∷ rs) f rest =
+    rw (
+      append-assoc (ruleBytes r) (ruleListOf rs) rest,
+      rule-back g r (f .0) (ruleListOf rs ++ rest),
+      le-leb _ _ (f .1),
+      list-back g (suc (keyOf r)) rs (f .2) rest,
+    )
 
 -- What reading a list of rules tells.
-pub record ListRead (g n : ℕ) (bs : List ℕ) (rs : List Rule) (rest : List ℕ) : Type 0 where
+pub record ListRead (g least n : ℕ) (bs : List ℕ) (rs : List Rule) (rest : List ℕ) : Type 0 where
   pub bytes : bs ≡ ruleListOf rs ++ rest
   pub size : length rs ≡ n
-  pub fits : RulesFit g rs
+  pub fits : RulesFit g least rs
 
 -- A list of rules that is read was written so.
-pub list-forth : (g n : ℕ) (bs : List ℕ) {rs : List Rule} {rest : List ℕ} → parseRuleList g n bs ≡ accepted (rs, rest)
-    → ListRead g n bs rs rest
+pub list-forth : (g least n : ℕ) (bs : List ℕ) {rs : List Rule} {rest : List ℕ} → parseRuleList g least n bs ≡ accepted (rs, rest)
+    → ListRead g least n bs rs rest
 unfolding parseRuleList ruleListOf
-list-forth g zero bs e = carried (ListRead g 0 bs) e (record { bytes = refl; size = refl; fits = tt })
-list-forth g (suc n) bs e =
+list-forth g least zero bs e = carried (ListRead g least 0 bs) e (record { bytes = refl; size = refl; fits = tt })
+list-forth g least (suc n) bs e =
     parted (parseRule g bs) _ e λ r m₁ b₁ e₁.
-    parted (parseRuleList g n m₁) _ e₁ λ rs m₂ b₂ e₂.
+    checked 13 (leb least (keyOf r)) e₁ λ t e₂.
+    parted (parseRuleList g (suc (keyOf r)) n m₁) _ e₂ λ rs m₂ b₂ e₃.
     let first = rule-forth g bs b₁ in
-    let others = list-forth g n m₁ b₂ in
-    carried (ListRead g (suc n) bs) e₂
+    let others = list-forth g (suc (keyOf r)) n m₁ b₂ in
+    carried (ListRead g least (suc n) bs) e₃
     (record {
       bytes = rw (append-assoc, ← others .bytes) (first .bytes);
       size = ap suc (others .size);
-      fits = (first .fits, others .fits);
+      fits = (first .fits, order least (keyOf r) .0 t, others .fits);
     })

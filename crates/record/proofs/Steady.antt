@@ -1,17 +1,17 @@
 -- What every part of the reader has in common, proved once for each way parts are put together: it takes at most so many
--- bytes, bytes behind those change nothing, and it refuses by a number from 1 to 5 or by 11.
+-- bytes, bytes behind those change nothing, and it refuses by a number from 1 to 5, by 11 or by 13.
 use mathlib.Core.Bool.{Bool, true, false}
 use mathlib.Core.List.{List, [], _∷_, _++_}
 use mathlib.Core.Path.{_≡_, refl}
-use Prim.Native.Nat.{ℕ, _+_, _≤_, _<_}
+use Prim.Native.Nat.{ℕ, _+_, _≤_}
 use native.Mathlib.Omega.{arith}
 use lib.ListN.{length}
 use Rattle.model.specs.Results.{refused, accepted, need}
-use Rattle.record.specs.Reader.{Read, andRead, parseByte}
+use Rattle.record.specs.Reader.{Read, andRead, parseByte, Refuses}
 
--- A number that refuses a record at the front, one from 1 to 5 or 11: 6 is for what is left after one.
+-- A number that refuses a record at the front: 6 is for what is left after one.
 abbrev pub Low : ℕ → Type 0
-Low n = (1 ≤ n) × (n ≤ 11) × (5 < n → n ≡ 11)
+Low n = Refuses 5 n
 
 -- More bytes behind those that are left.
 abbrev pub before : {A : Type 0} → List ℕ → Read A → Read A

@@ -11,6 +11,7 @@ use Rattle.model.specs.declared.Rule.{Rule}
 use Rattle.model.specs.declared.Thread.{Thread}
 use Rattle.model.specs.declared.Top.{Top}
 use Rattle.model.specs.Bits.{allZero}
+use Rattle.model.specs.Order.{keyOf}
 use Rattle.model.specs.Results.{accepted}
 use Rattle.model.specs.Rules.{zeroRule}
 use Rattle.model.specs.Fits.{RuleFits, TopFits, ThreadFits}
@@ -20,11 +21,21 @@ use Rattle.writer.specs.Writer.{fieldOf, ruleListOf, rulesOf, Extra}
 use Rattle.record.proofs.OneField.{parted, field-back, field-forth}
 use Rattle.record.proofs.RuleLists.{RulesFit, list-back, list-forth}
 
--- Rules in range one by one are in range as a list.
-fit-list : (g n : ℕ) (l : List Rule) → ((r : ℕ) → r < n → RuleFits g (getD l r zeroRule)) → RulesFit g (take n l)
-fit-list g zero l f = tt
-fit-list g (suc n) [] f = tt
-fit-list g (suc n) (x ∷ xs) f = (f 0 (omega arith), fit-list g n xs (λ r h. f (suc r) (omega arith)))
+-- Rules that are in range and ascend one by one do so as a list.
+fit-list : (g least n : ℕ) (l : List Rule) → ((r : ℕ) → r < n → RuleFits g (getD l r zeroRule))
+    → ((r : ℕ) → suc r < n → keyOf (getD l r zeroRule) < keyOf (getD l (suc r) zeroRule))
+    → (0 < n → least ≤ keyOf (getD l 0 zeroRule)) → RulesFit g least (take n l)
+fit-list g least zero l f o k = tt
+fit-list g least (suc n) [] f o k = tt
+fit-list g least (suc n) (x ∷ xs) f o k = (
+  f 0 (omega arith),
+  k (omega arith),
+  fit-list g (suc (keyOf x)) n xs (λ r h. f (suc r) (omega arith)) (λ r h. o (suc r) (omega arith)) (λ h. o 0 (omega arith)),
+)
+
+-- So those of a thread that fits do.
+pub thread-list : (g : ℕ) (t : Thread) → ThreadFits g t → RulesFit g 0 (take (t .count) (t .rules))
+thread-list g t f = fit-list g 0 (t .count) (t .rules) (f .rules) (f .order) (λ h. zero-le)
 
 -- The rules of a thread that are written are read.
 pub rules-back : {g : ℕ} (t : Thread) → ThreadFits g t → length (t .rules) ≡ 64 → (rest : List ℕ) {present : Bool}
@@ -36,14 +47,14 @@ rules-back {g} t f n rest e =
     let size : length rs ≡ t .count = length-take-le (t .count) (t .rules) (omega (arith, f .count)) in
     let most : t .count < 65 = omega (arith, f .count) in
     rw (append-assoc (fieldOf 0 (t .count)) (ruleListOf rs) rest, field-back 4 0 (t .count) (ruleListOf rs ++ rest) e zero-le most)
-    (subst (λ k. parseRuleList g k (ruleListOf rs ++ rest) ≡ accepted (rs, rest)) size (list-back g rs (fit-list g (t .count) (t .rules) (f .rules)) rest))
+    (subst (λ k. parseRuleList g 0 k (ruleListOf rs ++ rest) ≡ accepted (rs, rest)) size (list-back g 0 rs (thread-list g t f) rest))
 
 -- What reading the rules of a thread tells.
 pub record RulesRead (g : ℕ) (present : Bool) (bs : List ℕ) (rs : List Rule) (rest : List ℕ) : Type 0 where
   pub bytes : bs ≡ fieldOf 0 (length rs) ++ (ruleListOf rs ++ rest)
   pub stands : present ≡ not (eqb (length rs) 0)
   pub most : length rs ≤ 64
-  pub fits : RulesFit g rs
+  pub fits : RulesFit g 0 rs
 
 -- Rules that are read were written so.
 pub rules-forth : (present : Bool) (g : ℕ) (bs : List ℕ) {rs : List Rule} {rest : List ℕ}
@@ -52,7 +63,7 @@ unfolding parseRules
 rules-forth present g bs {rs} {rest} e =
     parted (parseField present 4 0 65 0 bs) _ e λ n mid b f.
     let c = field-forth present 4 0 65 0 bs zero-le (omega arith) b in
-    let l = list-forth g n mid f in
+    let l = list-forth g 0 n mid f in
     record {
       bytes = rw (l .size, ← l .bytes) (c .bytes);
       stands = rw (l .size) (c .stands);
@@ -60,14 +71,23 @@ rules-forth present g bs {rs} {rest} e =
       fits = l .fits;
     }
 
--- Rules in range as a list are in range one by one, whatever follows them.
-fit-at : (g : ℕ) (rs more : List Rule) → RulesFit g rs → (r : ℕ) → r < length rs → RuleFits g (getD (rs ++ more) r zeroRule)
-fit-at g [] more f r h = absurd (omega arith)
-fit-at g (x ∷ xs) more f zero h = f .0
-fit-at g (x ∷ xs) more f (suc r) h = fit-at g xs more (f .1) r (omega arith)
+-- Rules in range as a list are in range one by one, whatever follows them, ..
+fit-at : (g least : ℕ) (rs more : List Rule) → RulesFit g least rs → (r : ℕ) → r < length rs
+    → RuleFits g (getD (rs ++ more) r zeroRule)
+fit-at g least [] more f r h = absurd (omega arith)
+fit-at g least (x ∷ xs) more f zero h = f .0
+fit-at g least (x ∷ xs) more f (suc r) h = fit-at g (suc (keyOf x)) xs more (f .2) r (omega arith)
+
+-- .. and ascend one by one.
+order-at : (g least : ℕ) (rs more : List Rule) → RulesFit g least rs → (r : ℕ) → suc r < length rs
+    → keyOf (getD (rs ++ more) r zeroRule) < keyOf (getD (rs ++ more) (suc r) zeroRule)
+order-at g least [] more f r h = absurd (omega arith)
+order-at g least (x ∷ []) more f r h = absurd (omega arith)
+order-at g least (x ∷ y ∷ ys) more f zero h = f .2 .1
+order-at g least (x ∷ y ∷ ys) more f (suc r) h = order-at g (suc (keyOf x)) (y ∷ ys) more (f .2) r (omega arith)
 
 -- A thread that was read is in range, its marks apart.
-pub thread-fits : (g first : ℕ) (top : Top) (rs : List Rule) → first ≤ 15 → TopFits top → length rs ≤ 64 → RulesFit g rs
+pub thread-fits : (g first : ℕ) (top : Top) (rs : List Rule) → first ≤ 15 → TopFits top → length rs ≤ 64 → RulesFit g 0 rs
     → ThreadFits g (threadFrom first (record { top = top; held = noMarks }) rs)
 unfolding allZero
 thread-fits g first top rs h t k f =
@@ -75,7 +95,8 @@ thread-fits g first top rs h t k f =
       first = h;
       top = t;
       count = k;
-      rules = fit-at g rs (replicate (64 - length rs) zeroRule) f;
+      rules = fit-at g 0 rs (replicate (64 - length rs) zeroRule) f;
+      order = order-at g 0 rs (replicate (64 - length rs) zeroRule) f;
       free = λ r l u. no-bit noMarks tt r;
     }
 

@@ -1,7 +1,8 @@
 -- The model record as it is read: from left to right, and the first fault gives the refusal.
 use mathlib.Core.Bool.{Bool, true, false, not, _&&_, _||_, cond}
 use mathlib.Core.List.{List, [], _∷_, _++_}
-use Prim.Native.Nat.{ℕ, zero, suc, _-_, _/_, _%_}
+use mathlib.Core.Path.{_≡_}
+use Prim.Native.Nat.{ℕ, zero, suc, _-_, _/_, _%_, _≤_, _<_}
 use lib.Dec.{leb, ltb, eqb}
 use lib.ListN.{length, take, drop, replicate}
 use Rattle.model.specs.declared.Model.{Model}
@@ -12,9 +13,10 @@ use Rattle.model.specs.declared.Thread.{Thread}
 use Rattle.model.specs.declared.Top.{Top}
 use Rattle.model.specs.declared.Top.the-variants.{Any, Named}
 use Rattle.model.specs.Bits.{bit, allZero}
-use Rattle.model.specs.Results.{Result, refused, accepted, andThen, need, unless, firstOf}
+use Rattle.model.specs.Order.{keyOf}
+use Rattle.model.specs.Results.{Result, refused, accepted, andThen, need, unless}
 use Rattle.model.specs.Rules.{zeroRule}
-use Rattle.model.specs.Valid.{markFault}
+use Rattle.model.specs.Valid.{marksFault}
 use Rattle.writer.specs.Writer.{Extra, Second}
 
 -- Reading at the front of a list of bytes comes to a value and the bytes left.
@@ -80,14 +82,17 @@ parseRule g bs =
       rest,
     )))))))
 
--- So many rules, one after another.
-unfoldable pub parseRuleList : ℕ → ℕ → List ℕ → Read (List Rule)
-parseRuleList g zero bs = accepted ([], bs)
-parseRuleList g (suc n) bs = andRead (parseRule g bs) (λ r rest. andRead (parseRuleList g n rest) (λ rs rest. accepted (r ∷ rs, rest)))
+-- So many rules, one after another: the key of each is at least `least`, one above the key of the rule before it, so they ascend (13).
+unfoldable pub parseRuleList : ℕ → ℕ → ℕ → List ℕ → Read (List Rule)
+parseRuleList g least zero bs = accepted ([], bs)
+parseRuleList g least (suc n) bs =
+    andRead (parseRule g bs) (λ r rest.
+    need 13 (leb least (keyOf r))
+    (andRead (parseRuleList g (suc (keyOf r)) n rest) (λ rs rest. accepted (r ∷ rs, rest))))
 
--- The rules of a thread: a count of at most 64 (4) that is not 0 (5), and then the rules; none where the bit is absent.
+-- The rules of a thread: a count of at most 64 (4) that is not 0 (5), and then the rules, which ascend; none where the bit is absent.
 unfoldable pub parseRules : Bool → ℕ → List ℕ → Read (List Rule)
-parseRules present g bs = andRead (parseField present 4 0 65 0 bs) (λ n rest. parseRuleList g n rest)
+parseRules present g bs = andRead (parseField present 4 0 65 0 bs) (λ n rest. parseRuleList g 0 n rest)
 
 -- Bit 7 of a target byte, which announces a second map: it stands from 128 on.
 abbrev pub announces : ℕ → Bool
@@ -188,15 +193,11 @@ modelOf h ra rb =
       b = threadFrom (h .b) (h .second .b) rb;
     }
 
--- The model of a head that was read, and of A's rules and B's after it; and then what is asked of it.
-abbrev pub modelBy : (Model → List ℕ → Read Model) → Head → List ℕ → Read Model
-modelBy next h bs =
-    andRead (parseRules (bit 6 (h .map)) (h .g) bs) (λ ra rest.
-    andRead (parseRules (bit 7 (h .map)) (h .g) rest) (λ rb rest. next (modelOf h ra rb) rest))
-
--- The refusal number of marks on rule numbers that a list lacks: A's first, then B's; 0 for none.
-unfoldable pub marksFault : Model → ℕ
-marksFault m = firstOf (markFault (m .a) ∷ markFault (m .b) ∷ [])
+-- The model of a head that was read, and of A's rules and B's after it, as they are read; and then what is asked of it.
+abbrev pub modelBy : (Bool → ℕ → List ℕ → Read (List Rule)) → (Model → List ℕ → Read Model) → Head → List ℕ → Read Model
+modelBy readRules next h bs =
+    andRead (readRules (bit 6 (h .map)) (h .g) bs) (λ ra rest.
+    andRead (readRules (bit 7 (h .map)) (h .g) rest) (λ rb rest. next (modelOf h ra rb) rest))
 
 -- Marks stand on rules of the lists alone (11).
 abbrev pub marksListed : Model → List ℕ → Read Model
@@ -204,7 +205,7 @@ marksListed m bs = unless (marksFault m) (accepted (m, bs))
 
 -- The record at the front of a list: the head, then A's rules and B's, and that their marks are on rules of the lists.
 unfoldable pub parseFront : List ℕ → Read Model
-parseFront bs = andRead (parseHead bs) (modelBy marksListed)
+parseFront bs = andRead (parseHead bs) (modelBy parseRules marksListed)
 
 -- Nothing is left after the last field (6).
 abbrev pub ended : Model → List ℕ → Read Model
@@ -214,3 +215,7 @@ ended m (b ∷ rest) = refused 6
 -- A whole record.
 unfoldable pub readOf : List ℕ → Read Model
 readOf bs = andRead (parseFront bs) ended
+
+-- The numbers that refuse: those from 1 to `last`, 11 and 13.
+abbrev pub Refuses : ℕ → ℕ → Type 0
+Refuses last n = (1 ≤ n) × (n ≤ 13) × (last < n → 11 ≤ n) × (11 < n → n ≡ 13)

@@ -22,9 +22,9 @@ use model::Thread;
 ghost use mathlib.Core.Path.{_≡_};
 ghost use Prim.Native.Nat.{_≤_};
 ghost use lib.ListN.{length, drop};
-ghost use Rattle.model.specs.Valid.{faultOf};
+ghost use Rattle.model.specs.Valid.{marksFault};
 ghost use Rattle.record.specs.Held.{Reads, extraOf, fieldsOf, headPartOf, frontOf, Padded, listed, readingOf, zeroModel};
-ghost use Rattle.record.specs.Reader.{parseFront, parseHead, parseHeadRest, threadFrom, modelOf, marksFault};
+ghost use Rattle.record.specs.Reader.{parseFront, parseHead, parseHeadRest, threadFrom, modelOf};
 
 // A record at the front of a slice, and how many bytes it took.
 pub fn front(bytes: &[u8]) -> Front
@@ -78,22 +78,19 @@ fn model_of(h: Fields, a: RuleList, b: RuleList) -> Model
     }
 }
 
-// The fault of a model's marks, where all else of it is in range: none, where no mark stands.
+// The fault of a model's marks: A's, then B's.
 fn marks_fault(m: Model) -> u8
-    requires { ⌜ faultOf m ≡ marksFault m ⌝ }
     ensures { λ n. ⌜ n ≡ marksFault m ⌝ }
 {
     let a = m.a;
     let held_a = a.held;
-    if !model::all_zero(held_a) {
-        return model::fault(m);
+    let first = model::mark_fault(held_a, a.count);
+    if first != 0 {
+        return first;
     }
     let b = m.b;
     let held_b = b.held;
-    if !model::all_zero(held_b) {
-        return model::fault(m);
-    }
-    0
+    model::mark_fault(held_b, b.count)
 }
 
 // The zero model, beside a refusal.

@@ -20,7 +20,8 @@ ghost use lib.ListN.{length, drop};
 ghost use Rattle.record.specs.Held.{Reads, rightPartOf, rulePartOf, listOf, Padded};
 ghost use Rattle.record.specs.Reader.{parseRight, parseRule, ruleMap, parseRules};
 
-// The rules of a thread, from the place of their count; no byte is taken where they are absent.
+// The rules of a thread, from the place of their count; no byte is taken where they are absent. The least key that the next rule may
+// have is one above the last.
 pub fn read_rules(s: &[u8], present: bool, g: u8) -> RuleList
     ensures read { λ r. ⌜ Reads (now (s .entry)) (listOf r) (parseRules present g (now (s .entry))) ⌝ }
     ensures padded { λ r. ⌜ Padded (r .count) (r .rules) ⌝ }
@@ -29,31 +30,40 @@ pub fn read_rules(s: &[u8], present: bool, g: u8) -> RuleList
     let mut i = 0;
     let counted = match field(s, 0, present, 4, 0, 65, 0) {
         Part::Read(x) => x,
-        Part::Refused(m) => return RuleList {
-            answer: Taken::Refused(m),
-            count: i,
-            rules,
-        },
+        Part::Refused(m) => return refusal(m, i, rules),
     };
     let n = counted.byte as usize;
     let mut at = counted.at;
+    let mut least = 0u64;
     while i < n {
         let next = match read_rule(s, at, g) {
             RulePart::Read(x) => x,
-            RulePart::Refused(m) => return RuleList {
-                answer: Taken::Refused(m),
-                count: i,
-                rules,
-            },
+            RulePart::Refused(m) => return refusal(m, i, rules),
         };
         let rule = next.rule;
+        let place = model::key(rule) as u64;
+        if place < least {
+            return refusal(13, i, rules);
+        }
         rules[i] = rule;
+        least = place + 1;
         at = next.at;
         i += 1;
     }
     RuleList {
         answer: Taken::At(at),
         count: i,
+        rules,
+    }
+}
+
+// The rules read so far, beside a refusal.
+fn refusal(m: u8, count: usize, rules: [Rule; 64]) -> RuleList
+    ensures { λ r. ⌜ r ≡ record { answer = Taken.Refused m; count = count; rules = rules } ⌝ }
+{
+    RuleList {
+        answer: Taken::Refused(m),
+        count,
         rules,
     }
 }

@@ -92,19 +92,6 @@ fn document() -> Tally {
     t.counted(agrees(b"\x09\x04", 5))
 }
 
-// Records whose thread A has so many rules, each of two zero bytes: 64 are accepted, 65 refused by 4, and 0 by 5.
-fn counts() -> Tally {
-    let mut bytes = [0u8; 133];
-    bytes[0] = 72;
-    let mut t = Tally::new();
-    t = t.counted(agrees(&bytes[..3], 5));
-    bytes[2] = 64;
-    t = t.counted(agrees(&bytes[..131], 0));
-    t = t.counted(agrees(&bytes[..130], 1));
-    bytes[2] = 65;
-    t.counted(agrees(&bytes, 4))
-}
-
 // What document 02 says of second maps: tops named for A, for B and for both, and each refusal in its order.
 fn second_maps() -> Tally {
     let mut t = Tally::new();
@@ -146,14 +133,16 @@ fn file(name: &[u8], store: &mut [u8]) {
     corpus(&store[0..n]).report(name);
 }
 
-// held.bin has what document 02 says of held rules: marks for A, for B and for both, and each refusal in its order. longest.bin has
-// the longest record, of 668 bytes, and the same with a byte less and with one more.
+// counts.bin has lists of 0, 64 and 65 rules. held.bin has what document 02 says of held rules: marks for A, for B and for both, and each
+// refusal in its order. order.bin has the records of bindings/cases.txt that are about the order of rules. longest.bin has the longest
+// record, of 668 bytes, and the same with a byte less and with one more.
 fn main() {
     document().report(b"document 01");
-    counts().report(b"rule counts");
     second_maps().report(b"second maps");
     let mut store = [0u8; 100000];
+    file(b"counts.bin", &mut store);
     file(b"held.bin", &mut store);
+    file(b"order.bin", &mut store);
     file(b"longest.bin", &mut store);
     file(b"records.bin", &mut store);
 }

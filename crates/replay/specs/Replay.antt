@@ -18,7 +18,7 @@ use Rattle.replay.specs.declared.Replayed.the-variants.{Accepted, Refuse
 unfoldable pub sizeFits : List ℕ → Bool
 sizeFits bytes = eqb (length bytes % 2) 0 && leb (length bytes) mostBytes
 
--- What is refused before the walk, in order: the model's fault (3, 4, 11), then the schedule's size (8); 0 for nothing.
+-- What is refused before the walk, in order: the model's fault (3, 4, 13 or 11), then the schedule's size (8); 0 for nothing.
 abbrev pub sizeRefusal : Model → List ℕ → ℕ
 sizeRefusal m bytes = firstOf (faultOf m ∷ refuse 8 (sizeFits bytes) ∷ [])
 

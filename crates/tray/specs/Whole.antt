@@ -1,7 +1,7 @@
 -- A tray from its front to its end: the records of some models one after another, and what reading one by one gives.
 use mathlib.Core.List.{List, [], _∷_, _++_}
 use mathlib.Core.Path.{_≡_}
-use Prim.Native.Nat.{ℕ, _<_}
+use Prim.Native.Nat.{ℕ}
 use Rattle.model.specs.declared.Model.{Model}
 use Rattle.model.specs.Valid.{Valid, Same, Places}
 use Rattle.writer.specs.Writer.{recordOf}
@@ -36,11 +36,6 @@ pub record Holds (ms : List Model) (bytes : List ℕ) : Type 0 where
   pub models : List Model
   pub read : ReadAs bytes models
   pub same : AllSame ms models
-
--- All numbers of a list are bytes.
-abbrev pub Bytes : List ℕ → Type 0
-Bytes [] = Unit {0}
-Bytes (b ∷ bytes) = (b < 256) × Bytes bytes
 
 -- A tray is filled by models: its bytes are their records and nothing else, and each of them can be written.
 pub record Filled (tray : List ℕ) (ms : List Model) : Type 0 where

@@ -90,11 +90,12 @@ fn by_hand() -> Tally {
         ACCEPTED,
         2,
     ));
-    t.counted(agrees(
+    t = t.counted(agrees(
         b"\x48\x80\x04\x02\x00\x00\x00\x00\x00\x00\x00\x01\x00\x00\x08\x00",
         11,
         0,
-    ))
+    ));
+    t.counted(agrees(b"\x48\x00\x02\x00\x10\x00\x00\x08\x00", 13, 0))
 }
 
 // One case of the file after another: a tray with its length, its answer, and the length of the rest in two bytes.

@@ -42,7 +42,14 @@ first-turn B = omega arith
 -- A thread whose states are below G, which is at most 4.
 pub four-fits : {g : ℕ} {t : Thread} → g ≤ 4 → ThreadFits g t → ThreadFits 4 t
 four-fits {g} four fits =
-    record { first = fits .first; top = fits .top; count = fits .count; rules = λ r h. rule (fits .rules r h); free = fits .free }
+    record {
+      first = fits .first;
+      top = fits .top;
+      count = fits .count;
+      rules = λ r h. rule (fits .rules r h);
+      order = fits .order;
+      free = fits .free;
+    }
   where
     rule : {r : Rule} → RuleFits g r → RuleFits 4 r
     rule f = record { state = omega arith; top = f .top; next = omega arith; symbols = f .symbols }

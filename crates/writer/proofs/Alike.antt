@@ -1,5 +1,5 @@
 -- Unused rule places are not written: a thread's record is that of its first rules, as many as it counts, and these are
--- the same in models that are the same.
+-- the same in models that are the same. And so are valid models that agree up to the order of their rules.
 use mathlib.Core.List.{List, [], _∷_}
 use mathlib.Core.Path.{_≡_, refl}
 use Prim.Native.Nat.{ℕ, zero, suc, _≤_, _<_}
@@ -8,8 +8,10 @@ use lib.ListN.{length, getD, take}
 use Rattle.model.specs.declared.Model.{Model}
 use Rattle.model.specs.declared.Thread.{Thread}
 use Rattle.model.specs.Rules.{zeroRule}
+use Rattle.model.specs.UpToOrder.{UpToOrder, ByteMarks}
 use Rattle.model.specs.Valid.{Valid, SameThread, Same, Places}
 use Rattle.model.proofs.Ranges.{valid-fits}
+use Rattle.model.proofs.Sets.{one-order}
 use Rattle.writer.specs.Writer.{rulesOf, mapOf, headBytes, recordOf}
 
 -- Lists that agree at their first k places have the same front.
@@ -50,3 +52,8 @@ same-record {m} {n} s v p q =
       s .a .count,
       s .b .count,
     )
+
+-- Valid models that agree up to the order of their rules have one record.
+pub one-record : {m n : Model} → UpToOrder m n → Valid m → Valid n → Places m → Places n → ByteMarks m → ByteMarks n
+    → recordOf m ≡ recordOf n
+one-record s v w p q x y = same-record (one-order s v w p q x y) v p q

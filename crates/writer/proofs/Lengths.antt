@@ -2,7 +2,7 @@
 use mathlib.Core.Bool.{Bool, true, false, cond}
 use mathlib.Core.List.{List, [], _∷_}
 use mathlib.Core.Path.{_≡_, refl}
-use Prim.Native.Nat.{ℕ, zero, suc, _*_, _≤_}
+use Prim.Native.Nat.{ℕ, zero, suc, _*_, _/_, _%_, _≤_}
 use native.Mathlib.Omega.{arith}
 use lib.Dec.{eqb}
 use lib.ListN.{length, take, replicate, length-append, length-take}
@@ -15,9 +15,10 @@ use Rattle.model.specs.declared.Thread.{Thread}
 use Rattle.model.specs.declared.Top.{Top}
 use Rattle.model.specs.declared.Top.the-variants.{Any, Named}
 use Rattle.model.specs.Bits.{allZero}
+use Rattle.model.specs.Order.{rightKey, keyOf, above}
 use Rattle.model.specs.Results.{firstOf}
-use Rattle.model.specs.Valid.{Valid, faultOf, headFault, rangeFault, topFault, threadFault, ruleFault, rightFault, symbolFault}
-use Rattle.model.specs.Valid.{freeFrom, markFault}
+use Rattle.model.specs.Valid.{Valid, faultOf, headFault, rangeFault, topFault, threadFault, rulesFault, ruleFault, rightFault, symbolFault}
+use Rattle.model.specs.Valid.{freeFrom, markFault, marksFault}
 use Rattle.writer.specs.Writer.{fieldOf, weightOf, symbolsOf, ruleBytes, ruleListOf, rulesOf, mapOf, headBytes, recordOf}
 use Rattle.writer.specs.Writer.{topOf, heldBytes, Second, secondOf, secondMap, secondFields, targetBytes}
 
@@ -95,21 +96,26 @@ at-most m h =
     let f = valid-fits m .0 h in
     simp length-append (omega (arith, head m, thread (m .a) (f .a .count), thread (m .b) (f .b .count)))
 
--- A thread of 64 rules, all held, that leave nothing to absence.
-full : Thread
-full =
-    let long : Rule = record {
+-- Rules that leave nothing to absence, so many from number n on: the new symbols of each are the digits of its number, so they ascend.
+long : ℕ → ℕ → List Rule
+long n zero = []
+long n (suc k) =
+    record {
       before = record { 0 = 0 };
       symbol = record { 0 = 1 };
       after = record { 0 = 1 };
-      right = Push (record { 0 = 2 }) (record { 0 = 3 });
-    } in
+      right = Push (record { 0 = n / 16 }) (record { 0 = n % 16 });
+    } ∷ long (suc n) k
+
+-- A thread of 64 such rules, all held.
+full : Thread
+full =
     record {
       first = record { 0 = 1 };
       top = Named (record { 0 = 1 });
       held = replicate 8 255;
       count = 64;
-      rules = replicate 64 long;
+      rules = long 0 64;
     }
 
 -- A model that leaves nothing to absence.
@@ -118,9 +124,9 @@ longest = record { g = 3; k = 1; start = record { 0 = 1 }; target = record { 0 =
 
 -- It is valid, and no record is longer than its own.
 pub longest-valid : Valid longest
-unfolding longest full faultOf firstOf headFault rangeFault topFault threadFault ruleFault rightFault symbolFault markFault freeFrom
+unfolding longest full long faultOf firstOf headFault rangeFault topFault threadFault rulesFault above keyOf rightKey ruleFault rightFault symbolFault marksFault markFault freeFrom
 longest-valid = refl
 
 pub longest-length : length (recordOf longest) ≡ 668
-unfolding longest full recordOf mapOf weightOf fieldOf rulesOf ruleListOf ruleBytes headBytes targetBytes secondMap secondFields heldBytes allZero
+unfolding longest full long recordOf mapOf weightOf fieldOf rulesOf ruleListOf ruleBytes headBytes targetBytes secondMap secondFields heldBytes allZero
 longest-length = refl

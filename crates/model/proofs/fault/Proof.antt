@@ -1,6 +1,6 @@
 -- `fault` meets its contract: the parts are checked in order, and the first fault of a part is the answer.
 use borrow.Author.Needs.{needs}
-use Rattle.model.specs.Valid.{faultOf}
+use Rattle.model.specs.Valid.{faultOf, marksFault}
 use Rattle.model.proofs.Checks.{stops, passes, closes}
 use Rattle.model.proofs.fault.Statement.{statement}
 use Rattle.model.proofs.fault.Tie as tie
@@ -36,24 +36,23 @@ mark-fault-requires : tie.Need-mark-fault-requires
 mark-fault-requires c κs = search needs
 
 returns-4 : tie.Need-returns-4
-unfolding faultOf
+unfolding faultOf marksFault
 returns-4 c =
-    passes _ (c .before .before .before .before .before .before .before .before .before .head-fault .ensures) (c .before .before .before .before .before .before .before .before .if1 .left)
-    (passes _ (c .before .before .before .before .before .before .thread-fault .ensures) (c .before .before .before .before .before .if2 .left)
-    (passes _ (c .before .before .before .thread-fault2 .ensures) (c .before .before .if3 .left)
-    (stops _ (c .before .mark-fault .ensures) (c .if4 .taken))))
+    passes _ (c .before .before .before .before .before .before .before .before .before .before .head-fault .ensures) (c .before .before .before .before .before .before .before .before .before .if1 .left)
+    (passes _ (c .before .before .before .before .before .before .before .thread-fault .ensures) (c .before .before .before .before .before .before .if2 .left)
+    (passes _ (c .before .before .before .before .thread-fault2 .ensures) (c .before .before .before .if3 .left)
+    (closes (stops _ (c .before .mark-fault .ensures) (c .if4 .taken)))))
 
 mark-fault-requires-2 : tie.Need-mark-fault-requires-2
 mark-fault-requires-2 c κs = search needs
 
 returns-5 : tie.Need-returns-5
-unfolding faultOf
+unfolding faultOf marksFault
 returns-5 c =
-    passes _ (c .before .before .before .before .before .before .before .before .before .before .head-fault .ensures) (c .before .before .before .before .before .before .before .before .before .if1 .left)
-    (passes _ (c .before .before .before .before .before .before .before .thread-fault .ensures) (c .before .before .before .before .before .before .if2 .left)
-    (passes _ (c .before .before .before .before .thread-fault2 .ensures) (c .before .before .before .if3 .left)
-    (passes _ (c .before .before .mark-fault .ensures) (c .before .if4 .left)
-    (closes (c .mark-fault2 .ensures)))))
+    passes _ (c .before .before .before .before .before .before .before .before .before .before .before .before .head-fault .ensures) (c .before .before .before .before .before .before .before .before .before .before .before .if1 .left)
+    (passes _ (c .before .before .before .before .before .before .before .before .before .thread-fault .ensures) (c .before .before .before .before .before .before .before .before .if2 .left)
+    (passes _ (c .before .before .before .before .before .before .thread-fault2 .ensures) (c .before .before .before .before .before .if3 .left)
+    (closes (passes _ (c .before .before .before .mark-fault .ensures) (c .before .before .if4 .left) (closes (c .mark-fault2 .ensures))))))
 
 pub fault-spec : {M : Type 1} → statement M
 fault-spec =

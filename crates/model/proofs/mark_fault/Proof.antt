@@ -9,10 +9,10 @@ use Rattle.model.specs.Results.{refuse}
 use Rattle.model.specs.Valid.{markFault}
 
 abbrev Inv-loop : tie.InvT-loop
-Inv-loop t r₀ r = freeOn t r ≡ freeOn t (t .count)
+Inv-loop marks count r₀ r = freeOn marks r ≡ freeOn marks count
 
 abbrev μ-loop : tie.MeasureT-loop
-μ-loop t r₀ r = 64 - r
+μ-loop marks count r₀ r = 64 - r
 
 all-zero-requires : tie.Need-all-zero-requires Inv-loop μ-loop
 all-zero-requires c κs = search needs
@@ -33,7 +33,7 @@ returns-2 : tie.Need-returns-2 Inv-loop μ-loop
 unfolding markFault
 returns-2 c =
     let held = sym (c .before .is-held .ensures) ∙ c .if2 .taken in
-    ap (refuse 11) (sym (found _ _ (c .before .before .before .loop-test .taken) held) ∙ c .before .before .before .before .loop .inv)
+    ap (refuse 11) (sym (found _ _ (c .before .before .loop-test .taken) held) ∙ c .before .before .before .loop .inv)
 
 add-r : tie.Need-add-r Inv-loop μ-loop
 add-r c = search needs
@@ -44,7 +44,7 @@ loop-less c = search needs
 loop-again : tie.Need-loop-again Inv-loop μ-loop
 loop-again c =
     let clear = sym (c .before .is-held .ensures) ∙ c .if2 .left in
-    onward _ _ (c .before .before .before .loop-test .taken) clear ∙ c .before .before .before .before .loop .inv
+    onward _ _ (c .before .before .loop-test .taken) clear ∙ c .before .before .before .loop .inv
 
 returns-3 : tie.Need-returns-3 Inv-loop μ-loop
 unfolding markFault

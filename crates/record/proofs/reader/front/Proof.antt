@@ -1,17 +1,14 @@
--- `front` meets its contract: the head, and then the rules of each thread from the bytes that the part before them left. Of
--- the model, marks alone can still be at fault, since all else of it was checked as it was read.
+-- `front` meets its contract: the head, then the rules of each thread from the bytes that the part before them left, and then the marks.
 use mathlib.Core.Path.{_≡_, sym, _∙_}
 use Prim.Native.Nat.{_+_, _≤_}
 use native.Mathlib.Omega.{arith}
 use lib.ListN.{length, drop}
 use lib.Seq.{drop-drop}
-use Rattle.model.specs.Valid.{faultOf}
 use Rattle.model.proofs.Results.{due}
-use Rattle.record.specs.Reader.{marksFault, marksListed, parseFront}
+use Rattle.record.specs.Reader.{marksListed, parseFront}
 use Rattle.record.specs.Held.{headPartOf}
 use Rattle.record.proofs.Parts.{got, ends}
 use Rattle.record.proofs.Fronts.{refused-front, read-front, list-got, list-ends}
-use Rattle.record.proofs.Records.{parsed-fault}
 use borrow.Author.Needs.{needs}
 use Rattle.record.proofs.reader.front.Statement.{statement}
 use Rattle.record.proofs.reader.front.Tie as tie
@@ -142,7 +139,7 @@ returns-3 c =
 model-of-requires : tie.Need-model-of-requires
 model-of-requires c κs = search needs
 
--- What was read so far: the model has no fault but that of its marks, and with none it is the answer.
+-- What was read so far: with no fault of its marks, the model is the answer.
 so-far : (c : tie.After-model-of)
     → let lb = c .before in
     let la = lb .before .before .before .before .before .before in
@@ -150,7 +147,7 @@ so-far : (c : tie.After-model-of)
     let s = h .before .before .before .before .before .args .bytes .now in
     let m = c .model-of .result in
     let n = h .before .x .given .0 .0 .at + la .before .answer-a .given .0 .0 + lb .before .answer-b .given .0 .0 in
-    (faultOf m ≡ marksFault m) × (parseFront s ≡ marksListed m (drop n s))
+    parseFront s ≡ marksListed m (drop n s)
 unfolding parseFront
 so-far c =
     let lb = c .before in
@@ -162,13 +159,10 @@ so-far c =
     let head = got headPartOf (h .before .before .before .read-head .ensures) (h .before .x .given .1) in
     let rules-a = list-got s _ (head-end h) (a .result) _ _ (a .ensures .0) (la .before .answer-a .given .1) in
     let rules-b = list-got s _ (a-end la) (b .result) _ _ (b .ensures .0) (lb .before .answer-b .given .1) in
-    rw (c .model-of .ensures) (
-      parsed-fault s head rules-a (rw (← drop-drop) at rules-b),
-      rw (head, rules-a, drop-drop, rules-b, drop-drop),
-    )
+    rw (c .model-of .ensures, head, rules-a, drop-drop, rules-b, drop-drop)
 
 marks-fault-requires : tie.Need-marks-fault-requires
-marks-fault-requires c κs = so-far c .0
+marks-fault-requires c κs = search needs
 
 refusal-requires-4 : tie.Need-refusal-requires-4
 refusal-requires-4 c κs = search needs
@@ -177,7 +171,7 @@ returns-4 : tie.Need-returns-4
 returns-4 c =
     let fault = c .before .before in
     refused-front (c .refusal4 .ensures)
-    (so-far (fault .before) .1 ∙ rw (← fault .marks-fault .ensures) (sym (due _ (c .before .if1 .taken))))
+    (so-far (fault .before) ∙ rw (← fault .marks-fault .ensures) (sym (due _ (c .before .if1 .taken))))
 
 add-t22 : tie.Need-add-t22
 add-t22 c =
@@ -191,7 +185,7 @@ returns-5 : tie.Need-returns-5
 returns-5 c =
     let fault = c .before in
     let model = fault .before in
-    read-front (b-end (model .before)) (so-far model .1 ∙ rw (← fault .marks-fault .ensures, c .if1 .left))
+    read-front (b-end (model .before)) (so-far model ∙ rw (← fault .marks-fault .ensures, c .if1 .left))
 
 pub front-spec : {M : Type 1} → statement M
 front-spec =

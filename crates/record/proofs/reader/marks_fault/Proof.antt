@@ -1,45 +1,23 @@
--- `marks_fault` meets its contract: the model's fault is that of its marks, and without a mark there is none.
+-- `marks_fault` meets its contract: A's marks are checked and then B's, and the first fault is the answer.
 use borrow.Author.Needs.{needs}
-use borrow.Author.Tests.{not-false}
-use mathlib.Core.Path.{sym, _∙_}
-use Rattle.record.proofs.HeldMarks.{unheld}
+use Rattle.model.specs.Valid.{marksFault}
+use Rattle.model.proofs.Checks.{stops, passes, closes}
 use Rattle.record.proofs.reader.marks_fault.Statement.{statement}
 use Rattle.record.proofs.reader.marks_fault.Tie as tie
 
-all-zero-requires : tie.Need-all-zero-requires
-all-zero-requires c κs = search needs
-
-fault-requires : tie.Need-fault-requires
-fault-requires c κs = search needs
+mark-fault-requires : tie.Need-mark-fault-requires
+mark-fault-requires c κs = search needs
 
 returns : tie.Need-returns
-returns c = search needs
+unfolding marksFault
+returns c = stops _ (c .before .mark-fault .ensures) (c .if1 .taken)
 
-all-zero-requires-2 : tie.Need-all-zero-requires-2
-all-zero-requires-2 c κs = search needs
-
-fault-requires-2 : tie.Need-fault-requires-2
-fault-requires-2 c κs = search needs
+mark-fault-requires-2 : tie.Need-mark-fault-requires-2
+mark-fault-requires-2 c κs = search needs
 
 returns-2 : tie.Need-returns-2
-returns-2 c = search needs
-
-returns-3 : tie.Need-returns-3
-returns-3 c =
-    let b = c .before .all-zero2 in
-    let test = c .before .before .before .before in
-    let a = test .before .all-zero in
-    sym
-    (unheld _ (sym (a .ensures) ∙ not-false (a .result) (test .if1 .left)) (sym (b .ensures) ∙ not-false (b .result) (c .if2 .left)))
+unfolding marksFault
+returns-2 c = passes _ (c .before .before .before .before .mark-fault .ensures) (c .before .before .before .if1 .left) (closes (c .mark-fault2 .ensures))
 
 pub marks-fault-spec : {M : Type 1} → statement M
-marks-fault-spec =
-    tie.close
-    (tie.spec
-    all-zero-requires
-    fault-requires
-    returns
-    all-zero-requires-2
-    fault-requires-2
-    returns-2
-    returns-3)
+marks-fault-spec = tie.close (tie.spec mark-fault-requires returns mark-fault-requires-2 returns-2)

@@ -2,8 +2,8 @@
 use borrow.Author.Needs.{needs}
 use Rattle.model.specs.Valid.{rightFault}
 use Rattle.model.proofs.Checks.{stops, passes, closes}
-use Rattle.model.proofs.right_fault.Statement.{statement}
-use Rattle.model.proofs.right_fault.Tie as tie
+use Rattle.model.proofs.faults.right_fault.Statement.{statement}
+use Rattle.model.proofs.faults.right_fault.Tie as tie
 
 enum-told : tie.Need-enum-told
 enum-told c = search needs

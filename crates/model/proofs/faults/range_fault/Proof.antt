@@ -2,8 +2,8 @@
 use Rattle.model.specs.Results.{firstOf}
 use Rattle.model.specs.Valid.{rangeFault}
 use Rattle.model.proofs.Tests.{decided}
-use Rattle.model.proofs.range_fault.Statement.{statement}
-use Rattle.model.proofs.range_fault.Tie as tie
+use Rattle.model.proofs.faults.range_fault.Statement.{statement}
+use Rattle.model.proofs.faults.range_fault.Tie as tie
 
 returns : tie.Need-returns
 unfolding rangeFault firstOf

@@ -1,8 +1,8 @@
 -- `symbol_fault` meets its contract: its test is the definition's.
 use Rattle.model.specs.Valid.{symbolFault}
 use Rattle.model.proofs.Tests.{decided}
-use Rattle.model.proofs.symbol_fault.Statement.{statement}
-use Rattle.model.proofs.symbol_fault.Tie as tie
+use Rattle.model.proofs.faults.symbol_fault.Statement.{statement}
+use Rattle.model.proofs.faults.symbol_fault.Tie as tie
 
 returns : tie.Need-returns
 unfolding symbolFault

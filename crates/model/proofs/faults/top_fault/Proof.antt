@@ -2,8 +2,8 @@
 use borrow.Author.Needs.{needs}
 use borrow.Author.Tests.{le-leb, lt-leb}
 use Rattle.model.specs.Valid.{topFault}
-use Rattle.model.proofs.top_fault.Statement.{statement}
-use Rattle.model.proofs.top_fault.Tie as tie
+use Rattle.model.proofs.faults.top_fault.Statement.{statement}
+use Rattle.model.proofs.faults.top_fault.Tie as tie
 
 enum-told : tie.Need-enum-told
 enum-told c = search needs

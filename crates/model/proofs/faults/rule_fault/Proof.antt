@@ -4,8 +4,8 @@ use Rattle.model.specs.Results.{firstOf}
 use Rattle.model.specs.Valid.{ruleFault, symbolFault}
 use Rattle.model.proofs.Checks.{closes}
 use Rattle.model.proofs.Tests.{decided}
-use Rattle.model.proofs.rule_fault.Statement.{statement}
-use Rattle.model.proofs.rule_fault.Tie as tie
+use Rattle.model.proofs.faults.rule_fault.Statement.{statement}
+use Rattle.model.proofs.faults.rule_fault.Tie as tie
 
 returns : tie.Need-returns
 unfolding ruleFault symbolFault firstOf

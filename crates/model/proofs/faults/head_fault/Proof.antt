@@ -5,8 +5,8 @@ use borrow.Author.Needs.{needs}
 use Rattle.model.specs.Valid.{headFault}
 use Rattle.model.proofs.Checks.{stops, passes, closes}
 use Rattle.model.proofs.Tests.{decided}
-use Rattle.model.proofs.head_fault.Statement.{statement}
-use Rattle.model.proofs.head_fault.Tie as tie
+use Rattle.model.proofs.faults.head_fault.Statement.{statement}
+use Rattle.model.proofs.faults.head_fault.Tie as tie
 
 range-fault-requires : tie.Need-range-fault-requires
 range-fault-requires c κs = search needs
