@@ -11,16 +11,16 @@ use Rattle.summary.specs.declared.Push as push
 use Rattle.summary.specs.declared.Shape.{Shape}
 use Rattle.summary.specs.Cells.{plain, gone, lane, laneOf, freeOf, first, part, second, size, ShapeFits}
 use Rattle.summary.specs.Edges.{Edge, Counts, Relaxed, RowFits}
-use Rattle.summary.specs.Kinds.{PushFits}
+use Rattle.summary.specs.Kinds.{pushOf, PushFits}
 
 -- A row fits a table, and both of its rows of cells end below a bound.
 abbrev pub FitsBelow : ℕ → ℕ → ℕ → ℕ → ℕ → ℕ → List ℕ → Type 0
 FitsBelow bound w to a b count table = RowFits w to a b count table × ((to + count ≤ bound) × (b + count ≤ bound))
 
 -- A push of a rule in range is in range.
-pub push-fits : {N p γ h : ℕ} (a b : Symbol) → p < N → γ ≤ 15 → h < N → RightFits (Push a b)
-    → PushFits N (record { from = p; symbol = γ; to = h; a = a .0; b = b .0 })
-push-fits a b p γ h f = record { from = p; symbol = omega arith; to = h; a = omega arith; b = omega arith }
+pub push-fits : {N p γ h : ℕ} {a b : Symbol} {x : push.Push} → x ≡ pushOf p γ h a b → p < N → γ ≤ 15 → h < N → RightFits (Push a b)
+    → PushFits N x
+push-fits e p γ h f = rw e (record { from = p; symbol = omega arith; to = h; a = omega arith; b = omega arith })
 
 module _ {sh : Shape} {W : Edge → Type 0} {table old : List ℕ} {changes : ℕ} (relaxed : Relaxed W old table changes)
     (room : size (sh .controls) ≤ length old) (fits : ShapeFits sh) where

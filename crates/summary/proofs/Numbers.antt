@@ -13,7 +13,7 @@ use Rattle.model.specs.Fits.{ThreadFits}
 use Rattle.model.specs.Rules.{ruleAt, heldAt}
 use Rattle.model.proofs.Marks.{no-bit}
 use Rattle.summary.specs.Cells.{numberOf, controlsOf, gone, staysOf, staysEnd, shapeOf, ShapeFits, flagsOf, toOf}
-use Rattle.summary.specs.Control.{Control, number, numbered, dest, Known, any, named, EndInTable}
+use Rattle.summary.specs.Control.{Control, number, numbered, dest, Known, any, named, InTable, EndInTable}
 use Rattle.summary.specs.Kinds.{RuleIn, RulesIn}
 use Rattle.summary.specs.Stretch.{End, pop, stay}
 
@@ -54,9 +54,21 @@ flag-low N false q h =
     ]
 
 -- The number of a flag is at most 1.
-pub flag-most : (a : Bool) → oneIf a ≤ 1
+flag-most : (a : Bool) → oneIf a ≤ 1
 flag-most true = omega arith
 flag-most false = omega arith
+
+-- A control, given back by its turn ends and its number.
+pub numbered-is : (c : Control) (j p : ℕ) → j ≡ c .passed → p ≡ number c → c .shared < 4 → numbered j p ≡ c
+numbered-is c j p e f h =
+    let one = flag-most (c .held) in
+    let is = number-at j p (omega arith) .0 in
+    control-eq (numbered j p) c e (omega arith) (omega arith)
+
+-- The control of a number below those of a table is one of it.
+pub numbered-in : {controls n j p : ℕ} → controls ≤ 8 → j ≤ n → p < controls → InTable controls n (numbered j p)
+numbered-in {j = j} {p = p} most h l =
+    record { passed = h; shared = omega arith; number = rw (number-at j p (omega arith) .0) l }
 
 -- The stays of a table for a top end at 8 or at 12.
 stays-range : (top : Top) → (8 ≤ staysEnd top) × (staysEnd top ≤ 12)

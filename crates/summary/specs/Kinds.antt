@@ -2,6 +2,7 @@
 use Prim.Native.Nat.{ℕ, _+_, _*_, _≤_, _<_}
 use Rattle.model.specs.declared.Right.{Right}
 use Rattle.model.specs.declared.Rule.{Rule}
+use Rattle.model.specs.declared.Symbol.{Symbol}
 use Rattle.model.specs.declared.Thread.{Thread}
 use Rattle.model.specs.Fits.{RightFits}
 use Rattle.model.specs.Rules.{ruleAt}
@@ -29,6 +30,10 @@ abbrev pub partEnd : ℕ → Kind → ℕ
 partEnd n Plain = first n
 partEnd n (Lanes base) = base + part n
 partEnd n (Cross l) = size n
+
+-- The push of a rule from control p with γ on top to control h.
+abbrev pub pushOf : ℕ → ℕ → ℕ → Symbol → Symbol → Push
+pushOf p γ h a b = record { from = p; symbol = γ; to = h; a = a .0; b = b .0 }
 
 -- A push is between controls below n, and its symbols are in range.
 pub record PushFits (n : ℕ) (push : Push) : Type 0 where

@@ -6,6 +6,7 @@ use crate::cells::gone_at;
 use crate::cells::lane_cell;
 use crate::cells::second_of;
 use crate::edges::long_row;
+use crate::push_of;
 use model::Right;
 ghost use mathlib.Core.Path.{_≡_};
 ghost use Prim.Native.Nat.{_+_, _*_, _≤_, _<_};
@@ -35,13 +36,7 @@ pub fn cross_rule(
         Right::Remove => 0,
         Right::Swap(_) => 0,
         Right::Push(a, b) => {
-            let push = Push {
-                from: p,
-                symbol: top,
-                to: h,
-                a: a.0 as usize,
-                b: b.0 as usize,
-            };
+            let push = push_of(p, top, h, a, b);
             cross_pushes(table, l, shape, push)
         }
     }

@@ -7,6 +7,7 @@ use crate::cells::lane_cell;
 use crate::cells::plain_cell;
 use crate::edges::long_row;
 use crate::edges::row;
+use crate::push_of;
 use model::Right;
 ghost use mathlib.Core.Logic.{_⊎_};
 ghost use mathlib.Core.Path.{_≡_};
@@ -44,13 +45,7 @@ pub fn lane_rule(
             shape.dests * 16,
         ),
         Right::Push(a, b) => {
-            let push = Push {
-                from: p,
-                symbol: top,
-                to: h,
-                a: a.0 as usize,
-                b: b.0 as usize,
-            };
+            let push = push_of(p, top, h, a, b);
             let below = lane_pushes(table, base, shape, push);
             below
                 + long_row(

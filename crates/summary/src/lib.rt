@@ -1,9 +1,11 @@
 // Least step counts of one thread. They are held in sixteen bits: none is above 4,097, so two of them and a step add up without wrapping.
+use model::Symbol;
 use model::Thread;
 use model::Top;
 ghost use mathlib.Core.Path.{_≡_};
 ghost use Prim.Native.Nat.{_+_, _≤_};
 ghost use Rattle.summary.specs.Cells.{controlsOf, staysOf, staysEnd, shapeOf, ShapeFits};
+ghost use Rattle.summary.specs.Kinds.{pushOf};
 
 pub mod cells;
 mod cross;
@@ -42,6 +44,19 @@ pub struct Push {
     pub to: usize,
     pub a: usize,
     pub b: usize,
+}
+
+// The push of a rule from control p with `top` on top to control h.
+fn push_of(p: usize, top: usize, h: usize, a: Symbol, b: Symbol) -> Push
+    ensures { λ r. ⌜ r ≡ pushOf p top h a b ⌝ }
+{
+    Push {
+        from: p,
+        symbol: top,
+        to: h,
+        a: a.0 as usize,
+        b: b.0 as usize,
+    }
 }
 
 // How many controls a thread's table has, with g states: twice as many where rules are held.

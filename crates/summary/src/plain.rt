@@ -6,6 +6,7 @@ use crate::cells::gone_at;
 use crate::cells::plain_cell;
 use crate::edges::row;
 use crate::edges::usual_row;
+use crate::push_of;
 use model::Right;
 ghost use mathlib.Core.Path.{_≡_};
 ghost use Prim.Native.Nat.{_*_, _≤_, _<_};
@@ -42,13 +43,7 @@ pub fn plain_rule(
             8,
         ),
         Right::Push(a, b) => {
-            let push = Push {
-                from: p,
-                symbol: top,
-                to: h,
-                a: a.0 as usize,
-                b: b.0 as usize,
-            };
+            let push = push_of(p, top, h, a, b);
             let below = plain_pushes(table, shape, push);
             below
                 + usual_row(

@@ -6,9 +6,7 @@ use Prim.Native.Nat.{ℕ, zero, suc, _+_, _-_, _*_, _/_, _%_, _≤_, _<_}
 use native.Mathlib.Decide.{decLe}
 use native.Mathlib.Omega.{arith}
 use borrow.Author.Tests.{le-leb, lt-leb}
-use lib.Dec.{leb}
 use lib.ListN.{length, getD}
-use Rattle.model.specs.Bits.{oneIf}
 use Rattle.model.specs.declared.Right.{Right}
 use Rattle.model.specs.declared.Top.{Top}
 use Rattle.model.specs.Schedules.{mostSteps}
@@ -23,7 +21,7 @@ use Rattle.summary.specs.Edges.{cell}
 use Rattle.summary.specs.Stretch.{End, pop, stay}
 use Rattle.summary.specs.Table.{unreached, cap, Exact}
 use Rattle.summary.proofs.Best.{Best, best, exact-closed, here, remove, swap, both, above, change}
-use Rattle.summary.proofs.Numbers.{control-eq, number-at, gone-number, flag-most, controls-range, rules-in, stays-low, stay-span}
+use Rattle.summary.proofs.Numbers.{number-at, gone-number, numbered-is, numbered-in, controls-range, rules-in, stays-low, stay-span}
 use Rattle.summary.proofs.Ranging.{Sym, ranged}
 use Rattle.summary.proofs.Tables.{Ranged}
 use Rattle.witness.specs.declared.goal.Goal.{Goal}
@@ -64,23 +62,6 @@ in-time tab plan g h =
       | yes l ↦ l
       | no l ↦ absurd (omega (arith, entry-late tab plan g (omega arith)))
     ]
-
--- A control, given back by its turn ends and its number.
-pub numbered-is : (c : Control) (j p : ℕ) → j ≡ c .passed → p ≡ number c → c .shared < 4 → numbered j p ≡ c
-numbered-is c j p e f h = control-eq (numbered j p) c e held (omega arith)
-  where
-    held : oneIf (leb 4 p) ≡ oneIf (c .held)
-    held =
-        let one = flag-most (c .held) in
-        elim (decLe 4 p) [
-          | yes l ↦ rw (le-leb 4 p l) (omega arith)
-          | no l ↦ rw (lt-leb 4 p (omega arith)) (omega arith)
-        ]
-
--- The control of a number below those of a table is one of it.
-pub numbered-in : {controls n j p : ℕ} → controls ≤ 8 → j ≤ n → p < controls → InTable controls n (numbered j p)
-numbered-in {j = j} {p = p} most h l =
-    record { passed = h; shared = omega arith; number = rw (number-at j p (omega arith) .0) l }
 
 -- The destination of a stay is one of eight numbers ..
 pub stay-dest : {f : Top} {controls n : ℕ} (top : Top) (c : Control) → EndInTable f controls n (stay top c)

@@ -11,7 +11,7 @@ use lib.Dec.{eqb, ltb}
 use Rattle.summary.specs.Cells.{gone}
 use Rattle.witness.specs.declared.goal.Goal.{Goal}
 use Rattle.witness.specs.declared.onward.Onward.the-variants.{One, Two}
-use Rattle.witness.specs.Goals.{movedTo, enteredAt, goneAt, restAt, Ready, Decides, Sums, Above, Splits, Goes}
+use Rattle.witness.specs.Goals.{movedTo, enteredAt, goneAt, restAt, GoalFits, Ready, Decides, Sums, Above, Splits, Goes}
 use Rattle.witness.specs.Plan.{controlsIn, rulesIn, endsIn, ruleIn}
 
 -- The test of an equation answers it.
@@ -56,48 +56,34 @@ says-splits tab plan g below count r above sums none =
     ]
 
 module _ {tab plan : List ℕ} {g : Goal} (r : Ready tab plan g) where
+  -- Another goal in range is as ready.
+  as-ready : {next : Goal} → GoalFits (controlsIn plan) next → Ready tab plan next
+  as-ready f = record { size = r .size; range = r .range; fits = f }
+
   -- The goals that come of a goal are in range.
   pub moved-ready : (h a : ℕ) → h < controlsIn plan → a ≤ 16 → Ready tab plan (movedTo g h a)
   moved-ready h a p q =
       let f = r .fits in
-      record {
-        size = r .size;
-        range = r .range;
-        fits = record { passed = f .passed; control = p; symbol = q; until = f .until; dest = f .dest };
-      }
+      as-ready (record { passed = f .passed; control = p; symbol = q; until = f .until; dest = f .dest })
 
   entered-ready : (h : ℕ) → h < controlsIn plan → g .passed < g .until → Ready tab plan (enteredAt g h)
   entered-ready h p q =
       let f = r .fits in
-      record {
-        size = r .size;
-        range = r .range;
-        fits = record { passed = omega (arith, f .until); control = p; symbol = f .symbol; until = f .until; dest = f .dest };
-      }
+      as-ready (record { passed = omega (arith, f .until); control = p; symbol = f .symbol; until = f .until; dest = f .dest })
 
   pub gone-ready : {next : Goal} (y : ℕ) → y < 24 → next ≡ goneAt g y → Ready tab plan next
   gone-ready y h e =
       let f = r .fits in
       let j : y / 8 ≤ 2 = omega arith in
       let s : gone (y % 8) < 16 = omega arith in
-      rw e
-      (record {
-        size = r .size;
-        range = r .range;
-        fits = record { passed = f .passed; control = f .control; symbol = f .symbol; until = j; dest = s };
-      })
+      rw e (as-ready (record { passed = f .passed; control = f .control; symbol = f .symbol; until = j; dest = s }))
 
   pub rest-ready : {next : Goal} {below : ℕ} (y : ℕ) → below ≤ 16 → y < 24 → y % 8 < controlsIn plan → next ≡ restAt g below y
       → Ready tab plan next
   rest-ready y b h s e =
       let f = r .fits in
       let j : y / 8 ≤ 2 = omega arith in
-      rw e
-      (record {
-        size = r .size;
-        range = r .range;
-        fits = record { passed = j; control = s; symbol = b; until = f .until; dest = f .dest };
-      })
+      rw e (as-ready (record { passed = j; control = s; symbol = b; until = f .until; dest = f .dest }))
 
   -- So are those after a step by a rule of the plan.
   pub one-ready : (i : ℕ) {next : Goal} → i < rulesIn plan → Goes plan g i (One next) → Ready tab plan next

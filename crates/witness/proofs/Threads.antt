@@ -26,13 +26,13 @@ use Rattle.summary.specs.Edges.{bestOf}
 use Rattle.summary.specs.Stretch.{End, pop, stay, Path}
 use Rattle.summary.proofs.Floors.{unfloored}
 use Rattle.summary.proofs.Leasts.{least-as, least-once}
-use Rattle.summary.proofs.Numbers.{stays-low}
+use Rattle.summary.proofs.Numbers.{numbered-is, stays-low}
 use Rattle.summary.proofs.Overs.{pops, stays}
 use Rattle.summary.proofs.Relaxing.{better}
 use Rattle.witness.specs.declared.goal.Goal.{Goal}
 use Rattle.witness.specs.Goals.{from, Starts, Ready, Splits, EndsAt, Pairs}
 use Rattle.witness.specs.Plan.{statesIn, controlsIn, endsIn, Setting, Prepared}
-use Rattle.witness.proofs.Firsts.{numbered-is, stay-dest, starts-in, entry-same, gone-splits}
+use Rattle.witness.proofs.Firsts.{stay-dest, starts-in, entry-same, gone-splits}
 use Rattle.witness.proofs.Writers.{stored-as}
 
 -- A run looks at no turn end but the first n.

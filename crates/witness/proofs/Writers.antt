@@ -19,11 +19,11 @@ use Rattle.model.proofs.Stores.{sets-append, length-bytes, bytes-append}
 use Rattle.costs.specs.Ends.{turnOf}
 use Rattle.summary.specs.Control.{Control, numbered, Moves, Switches}
 use Rattle.summary.specs.Stretch.{End, pop, stay, Stretch}
-use Rattle.summary.proofs.Numbers.{number-at}
+use Rattle.summary.proofs.Numbers.{number-at, numbered-is, numbered-in}
 use Rattle.witness.specs.declared.goal.Goal.{Goal}
 use Rattle.witness.specs.Goals.{from, entryOf, movedTo, enteredAt, goneAt, restAt, Sums, Splits, Tight, EndsAt, Stretches, Pairs}
 use Rattle.witness.specs.Plan.{rulesIn, turnIn, endsIn, ruleIn, Setting}
-use Rattle.witness.proofs.Firsts.{in-time, numbered-is, numbered-in, stay-dest, pop-dest, controls-low, starts-in, entry-same, exact, after-low}
+use Rattle.witness.proofs.Firsts.{in-time, stay-dest, pop-dest, controls-low, starts-in, entry-same, exact, after-low}
 use Rattle.witness.proofs.Firsts.{moved-stands, entered-stands}
 use Rattle.witness.proofs.Firsts.{First, step, turn, first}
 

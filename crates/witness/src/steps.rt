@@ -21,9 +21,10 @@ ghost use Prim.Native.Nat.{suc, _*_, _^_, _≤_, _<_};
 ghost use lib.ListN.{length};
 ghost use Rattle.model.specs.Fits.{TopFits, ThreadFits};
 ghost use Rattle.model.specs.Lines.{digits};
-ghost use Rattle.model.specs.Schedules.{mostSteps, Stored};
-ghost use Rattle.costs.specs.Cost.{RunAlong, LeastAlong};
+ghost use Rattle.model.specs.Schedules.{Stored};
+ghost use Rattle.costs.specs.Cost.{RunAlong};
 ghost use Rattle.summary.specs.Cells.{controlsOf, size};
+ghost use Rattle.witness.specs.Chosen.{ChosenFor};
 ghost use Rattle.witness.specs.Goals.{Starts};
 ghost use Rattle.witness.specs.Plan.{planSize, Prepared};
 
@@ -40,12 +41,7 @@ pub fn steps(
     count: usize,
     out: &mut [u8],
 )
-    requires { ⌜
-        (1 ≤ g) × (g ≤ 4) × (n ≤ 2) × (start < g) × (v < g ^ (2 * suc n)) × TopFits top
-        × ThreadFits g th
-        ⌝ ∗ ⌜
-        LeastAlong th top id n start (digits g (2 * suc n) v) count × (count ≤ mostSteps) × (2 * count ≤ length (now out))
-        ⌝ }
+    requires { ⌜ ChosenFor th top g n id start v count ⌝ ∗ ⌜ 2 * count ≤ length (now out) ⌝ }
     ensures { λ _. ⌜
         Stored (RunAlong th top id n start (digits g (2 * suc n) v)) count 0 (now (out .entry)) (now (out .exit))
         ⌝ }
@@ -73,12 +69,8 @@ fn steps_in(
     count: usize,
     out: &mut [u8],
 )
-    requires { ⌜
-        (1 ≤ g) × (g ≤ 4) × (n ≤ 2) × (start < g) × (v < g ^ (2 * suc n)) × TopFits top
-        × ThreadFits g th
-        ⌝ ∗ ⌜
-        LeastAlong th top id n start (digits g (2 * suc n) v) count × (count ≤ mostSteps) × (2 * count ≤ length (now out))
-        ⌝ ∗ ⌜ size (controlsOf th g) ≤ length (now table) ⌝ }
+    requires { ⌜ ChosenFor th top g n id start v count ⌝
+        ∗ ⌜ (2 * count ≤ length (now out)) × (size (controlsOf th g) ≤ length (now table)) ⌝ }
     ensures { λ _. ⌜
         Stored (RunAlong th top id n start (digits g (2 * suc n) v)) count 0 (now (out .entry)) (now (out .exit))
         ⌝ }

@@ -8,7 +8,7 @@ use model::Rule;
 use summary::UNREACHED;
 use summary::cells::gone_at;
 ghost use mathlib.Core.Path.{_≡_};
-ghost use Prim.Native.Nat.{ℕ, _+_, _≤_, _<_};
+ghost use Prim.Native.Nat.{ℕ, _+_, _%_, _≤_, _<_};
 ghost use Rattle.model.specs.Fits.{RightFits};
 ghost use Rattle.model.specs.Schedules.{mostSteps};
 ghost use Rattle.costs.specs.Lanes.{LaneTo};
@@ -139,14 +139,12 @@ pub fn middle(table: &[u16], plan: &[u8], goal: Goal, below: usize, count: usize
     24
 }
 
-// Whether the first symbol of a pair can be gone at control y.
+// Whether the first symbol of a pair can be gone at control y of the table.
 fn sums(table: &[u16], plan: &[u8], goal: Goal, below: usize, count: usize, y: usize) -> bool
-    requires { ⌜ Ready (now table) (now plan) goal ⌝ ∗ ⌜ (below ≤ 16) × (count ≤ mostSteps) × (y < 24) ⌝ }
+    requires { ⌜ Ready (now table) (now plan) goal ⌝
+        ∗ ⌜ (below ≤ 16) × (count ≤ mostSteps) × (y < 24) × (y % 8 < controlsIn (now plan)) ⌝ }
     ensures { λ r. ⌜ Decides r (Sums (now (table .entry)) (now (plan .entry)) goal below count y) ⌝ }
 {
-    if byte(plan, 7) <= y % 8 {
-        return false;
-    }
     let gone = entry_of(table, plan, goal.gone_at(y));
     if count < gone {
         return false;

@@ -5,7 +5,7 @@ use native.Mathlib.Omega.{arith}
 use lib.Seq.{length-take-le}
 use borrow.Author.Needs.{needs}
 use Rattle.model.specs.declared.ThreadId.the-variants.{A, B}
-use Rattle.witness.proofs.Whole.{fronts-fit, cost-along, line-low, written}
+use Rattle.witness.proofs.Whole.{fronts-fit, chosen-for, written}
 use Rattle.witness.proofs.write.Statement.{statement}
 use Rattle.witness.proofs.write.Tie as tie
 
@@ -27,10 +27,8 @@ slice-aggregate-steps c = search needs
 steps-requires : tie.Need-steps-requires
 steps-requires c κs =
     let p = c .before .before .before .before .before .before .before .pre in
-    let f = p .0 in (
-      (f .g .0, f .g .1, omega (arith, f .k), f .start, line-low _ (f .k .0) (p .1 .0), f .a .top, f .a),
-      (cost-along _ A _ _ (f .k .0) (p .1 .0 .a), omega (arith, p .1 .0 .most), omega (arith, p .1 .0 .most)),
-    )
+    let l = p .1 .0 in
+    (chosen-for _ A _ _ (p .0) (p .0 .a) (l .low) (l .a) (omega (arith, l .most)), omega (arith, l .most))
 
 slice-aggregate-steps-2 : tie.Need-slice-aggregate-steps-2
 slice-aggregate-steps-2 c = search needs
@@ -38,10 +36,8 @@ slice-aggregate-steps-2 c = search needs
 steps-requires-2 : tie.Need-steps-requires-2
 steps-requires-2 c κs =
     let p = c .before .before .before .before .before .before .before .before .before .before .pre in
-    let f = p .0 in (
-      (f .g .0, f .g .1, omega (arith, f .k), f .start, line-low _ (f .k .0) (p .1 .0), f .b .top, f .b),
-      (cost-along _ B _ _ (f .k .0) (p .1 .0 .b), omega (arith, p .1 .0 .most), omega (arith, p .1 .0 .most)),
-    )
+    let l = p .1 .0 in
+    (chosen-for _ B _ _ (p .0) (p .0 .b) (l .low) (l .b) (omega (arith, l .most)), omega (arith, l .most))
 
 mul-end-a : tie.Need-mul-end-a
 mul-end-a c = search needs
@@ -79,7 +75,7 @@ returns c =
     let c7 = c .before .before .before .before .before .before .before in
     let c10 = c7 .before .before .before in
     let p = c10 .before .before .before .before .before .before .before .before .pre in
-    written _ (p .0 .k .0) (p .1 .0) (c10 .steps .ensures) (c7 .steps2 .ensures) (omega (arith, p .1 .0 .most))
+    written _ _ (p .0 .k .0) (c10 .steps .ensures) (c7 .steps2 .ensures) (omega (arith, p .1 .0 .most))
     (omega (arith, p .1 .0 .most)) (c .before .before .merge .ensures)
 
 pub write-spec : {M : Type 1} → statement M

@@ -15,17 +15,14 @@ enum-told-2 c = search needs
 enum-known-right : tie.Need-enum-known-right
 enum-known-right c = search needs
 
-cast-t12 : tie.Need-cast-t12
-cast-t12 c = search needs
-
-cast-t13 : tie.Need-cast-t13
-cast-t13 c = search needs
+push-of-requires : tie.Need-push-of-requires
+push-of-requires c κs = search needs
 
 cross-pushes-requires : tie.Need-cross-pushes-requires
 cross-pushes-requires c κs =
-    let pre = c .before .before .before .before .before .before .before .pre in
-    let right = rw (c .before .before .before .before .right .given .1) at (pre .0 .6) in
-    ((pre .0 .0, pre .0 .1, pre .0 .2, push-fits _ _ (pre .0 .3) (pre .0 .4) (pre .0 .5) right), pre .1)
+    let pre = c .before .before .before .before .before .before .pre in
+    let right = rw (c .before .before .before .right .given .1) at (pre .0 .6) in
+    ((pre .0 .0, pre .0 .1, pre .0 .2, push-fits (c .before .push-of .ensures) (pre .0 .3) (pre .0 .4) (pre .0 .5) right), pre .1)
 
 returns : tie.Need-returns
 returns c = (rw (c .enum-told .given .1) (unchanged _), omega arith)
@@ -37,7 +34,9 @@ same-length : tie.Need-same-length
 same-length c = search needs
 
 returns-3 : tie.Need-returns-3
-returns-3 c = (rw (c .before .before .before .before .before .before .before .right .given .1) (c .before .before .cross-pushes .ensures .0), omega (arith, c .before .before .cross-pushes .ensures .1, c .before .before .before .before .before .before .before .before .before .before .pre .0 .2))
+returns-3 c =
+    let pushes = c .before .before .cross-pushes .ensures in
+    (rw (c .before .before .before .before .before .before .right .given .1) (rw (c .before .before .before .before .push-of .ensures) at (pushes .0)), omega (arith, pushes .1, c .before .before .before .before .before .before .before .before .before .pre .0 .2))
 
 pub cross-rule-spec : {M : Type 1} → statement M
 cross-rule-spec =
@@ -46,8 +45,7 @@ cross-rule-spec =
     enum-told
     enum-told-2
     enum-known-right
-    cast-t12
-    cast-t13
+    push-of-requires
     cross-pushes-requires
     returns
     returns-2

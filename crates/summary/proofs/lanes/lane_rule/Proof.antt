@@ -38,26 +38,23 @@ long-row-requires c κs =
 enum-known-right-2 : tie.Need-enum-known-right-2
 enum-known-right-2 c = search needs
 
-cast-long-row : tie.Need-cast-long-row
-cast-long-row c = search needs
-
-cast-long-row-2 : tie.Need-cast-long-row-2
-cast-long-row-2 c = search needs
+push-of-requires : tie.Need-push-of-requires
+push-of-requires c κs = search needs
 
 lane-pushes-requires : tie.Need-lane-pushes-requires
 lane-pushes-requires c κs =
-    let pre = c .before .before .before .before .before .before .before .pre in
-    let right = rw (c .before .before .before .before .right2 .given .1) at (pre .0 .6) in
-    ((pre .0 .0, pre .0 .1, pre .0 .2, push-fits _ _ (pre .0 .3) (pre .0 .4) (pre .0 .5) right), pre .1)
+    let pre = c .before .before .before .before .before .before .pre in
+    let right = rw (c .before .before .before .right2 .given .1) at (pre .0 .6) in
+    ((pre .0 .0, pre .0 .1, pre .0 .2, push-fits (c .before .push-of .ensures) (pre .0 .3) (pre .0 .4) (pre .0 .5) right), pre .1)
 
 lane-cell-requires-3 : tie.Need-lane-cell-requires-3
 lane-cell-requires-3 c κs = search needs
 
 lane-cell-requires-4 : tie.Need-lane-cell-requires-4
 lane-cell-requires-4 c κs =
-    let pre = c .before .before .before .before .before .before .before .before .before .before .before .before .pre in
-    let right = rw (c .before .before .before .before .before .before .before .before .before .right2 .given .1) at (pre .0 .6) in
-    (omega (arith, pre .0 .1, pre .0 .2 .controls), omega (arith, pre .0 .5, pre .0 .2 .controls), omega (arith, right .0), omega arith)
+    let pre = c .before .before .before .before .before .before .before .before .before .before .before .pre in
+    let right = rw (c .before .before .before .before .before .before .before .before .right2 .given .1) at (pre .0 .6) in
+    (omega (arith, pre .0 .1, pre .0 .2 .controls), omega (arith, pre .0 .5, pre .0 .2 .controls), rw (c .before .before .before .before .before .before .push-of .ensures) (omega (arith, right .0)), omega arith)
 
 sub-long-row : tie.Need-sub-long-row
 sub-long-row c = search needs
@@ -67,14 +64,14 @@ mul-long-row-2 c = search needs
 
 long-row-requires-2 : tie.Need-long-row-requires-2
 long-row-requires-2 c κs =
-    let pre = c .before .before .before .before .before .before .before .before .before .before .before .before .before .before .pre in
-    let right = rw (c .before .before .before .before .before .before .before .before .before .before .before .right2 .given .1) at (pre .0 .6) in
+    let pre = c .before .before .before .before .before .before .before .before .before .before .before .before .before .pre in
+    let right = rw (c .before .before .before .before .before .before .before .before .before .before .right2 .given .1) at (pre .0 .6) in
     let pushes = c .before .before .before .before .before .before .lane-pushes .ensures .0 in
-    let fits = above-row pushes (pre .0 .0) (pre .0 .2) (pre .0 .1) (pre .0 .3) (pre .0 .4) (pre .0 .5) (right .0) (c .before .before .lane-cell3 .ensures) (c .before .lane-cell4 .ensures) in
+    let fits = above-row pushes (pre .0 .0) (pre .0 .2) (pre .0 .1) (pre .0 .3) (pre .0 .4) (pre .0 .5) (right .0) (c .before .before .lane-cell3 .ensures) (rw (c .before .before .before .before .before .before .before .before .push-of .ensures) at (c .before .lane-cell4 .ensures)) in
     (fits .0, rows-in (held pushes (pre .1)) (fits .1))
 
 add-result : tie.Need-add-result
-add-result c = search needs
+add-result c = omega (arith, c .before .before .before .before .before .before .before .before .before .lane-pushes .ensures .1, c .before .before .long-row2 .ensures .1, c .before .before .before .before .before .before .before .before .before .before .before .before .before .before .before .before .pre .0 .2)
 
 returns : tie.Need-returns
 returns c = (rw (c .enum-told .given .1) (unchanged _), omega arith)
@@ -93,9 +90,10 @@ same-length-2 c = search needs
 returns-3 : tie.Need-returns-3
 returns-3 c =
     let pushes = c .before .before .before .before .before .before .before .before .before .lane-pushes .ensures in
-    let row = c .before .before .long-row2 .ensures in (
-      rw (c .before .before .before .before .before .before .before .before .before .before .before .before .before .before .right2 .given .1) (then (pushes .0) (rw (c .before .before .before .before .before .lane-cell3 .ensures, c .before .before .before .before .lane-cell4 .ensures) at (row .0))),
-      omega (arith, pushes .1, row .1, c .before .before .before .before .before .before .before .before .before .before .before .before .before .before .before .before .before .pre .0 .2),
+    let row = c .before .before .long-row2 .ensures in
+    let push = c .before .before .before .before .before .before .before .before .before .before .before .push-of .ensures in (
+      rw (c .before .before .before .before .before .before .before .before .before .before .before .before .before .right2 .given .1) (then (rw push at (pushes .0)) (rw (c .before .before .before .before .before .lane-cell3 .ensures, c .before .before .before .before .lane-cell4 .ensures, push) at (row .0))),
+      omega (arith, pushes .1, row .1, c .before .before .before .before .before .before .before .before .before .before .before .before .before .before .before .before .pre .0 .2),
     )
 
 pub lane-rule-spec : {M : Type 1} → statement M
@@ -110,8 +108,7 @@ lane-rule-spec =
     mul-long-row
     long-row-requires
     enum-known-right-2
-    cast-long-row
-    cast-long-row-2
+    push-of-requires
     lane-pushes-requires
     lane-cell-requires-3
     lane-cell-requires-4

@@ -45,39 +45,38 @@ usual-row-requires c κs =
 enum-known-right-2 : tie.Need-enum-known-right-2
 enum-known-right-2 c = search needs
 
-cast-usual-row : tie.Need-cast-usual-row
-cast-usual-row c = search needs
-
-cast-usual-row-2 : tie.Need-cast-usual-row-2
-cast-usual-row-2 c = search needs
+push-of-requires : tie.Need-push-of-requires
+push-of-requires c κs = search needs
 
 plain-pushes-requires : tie.Need-plain-pushes-requires
 plain-pushes-requires c κs =
-    let pre = c .before .before .before .before .before .before .before .pre in
-    let right = rw (c .before .before .before .before .right2 .given .1) at (pre .0 .5) in
-    ((pre .0 .0, pre .0 .1, push-fits _ _ (pre .0 .2) (pre .0 .3) (pre .0 .4) right), pre .1)
+    let pre = c .before .before .before .before .before .before .pre in
+    let right = rw (c .before .before .before .right2 .given .1) at (pre .0 .5) in
+    ((pre .0 .0, pre .0 .1, push-fits (c .before .push-of .ensures) (pre .0 .2) (pre .0 .3) (pre .0 .4) right), pre .1)
 
 plain-cell-requires-4 : tie.Need-plain-cell-requires-4
 plain-cell-requires-4 c κs = search needs
 
 plain-cell-requires-5 : tie.Need-plain-cell-requires-5
 plain-cell-requires-5 c κs =
-    let pre = c .before .before .before .before .before .before .before .before .before .before .before .before .pre in
-    let right = rw (c .before .before .before .before .before .before .before .before .before .right2 .given .1) at (pre .0 .5) in
-    (omega (arith, pre .0 .4, pre .0 .1), omega (arith, right .0), omega arith)
+    let pre = c .before .before .before .before .before .before .before .before .before .before .before .pre in
+    let right = rw (c .before .before .before .before .before .before .before .before .right2 .given .1) at (pre .0 .5) in
+    (omega (arith, pre .0 .4, pre .0 .1), rw (c .before .before .before .before .before .before .push-of .ensures) (omega (arith, right .0)), omega arith)
 
 sub-usual-row : tie.Need-sub-usual-row
 sub-usual-row c = search needs
 
 usual-row-requires-2 : tie.Need-usual-row-requires-2
 usual-row-requires-2 c κs =
-    let pre = c .before .before .before .before .before .before .before .before .before .before .before .before .before .before .pre in
-    let right = rw (c .before .before .before .before .before .before .before .before .before .before .before .right2 .given .1) at (pre .0 .5) in
+    let pre = c .before .before .before .before .before .before .before .before .before .before .before .before .before .pre in
+    let right = rw (c .before .before .before .before .before .before .before .before .before .before .right2 .given .1) at (pre .0 .5) in
     let pushes = c .before .before .before .before .before .before .plain-pushes .ensures .0 in
-    (search needs, rows-in (held pushes (pre .1)) (omega (arith, c .before .plain-cell5 .ensures, c .before .before .plain-cell4 .ensures, right .0, pre .0)))
+    let from = rw (c .before .before .before .before .before .before .before .before .push-of .ensures) at (c .before .plain-cell5 .ensures) in
+    let to = c .before .before .plain-cell4 .ensures in
+    (omega (arith, from, to, right .0, pre .0, pushes .size), rows-in (held pushes (pre .1)) (omega (arith, from, to, right .0, pre .0)))
 
 add-result : tie.Need-add-result
-add-result c = search needs
+add-result c = omega (arith, c .before .before .before .before .before .before .before .before .before .plain-pushes .ensures .1, c .before .before .usual-row2 .ensures .1, c .before .before .before .before .before .before .before .before .before .before .before .before .before .before .before .before .pre .0 .1)
 
 same-length : tie.Need-same-length
 same-length c = search needs
@@ -99,9 +98,10 @@ same-length-3 c = search needs
 returns-3 : tie.Need-returns-3
 returns-3 c =
     let pushes = c .before .before .before .before .before .before .before .before .before .plain-pushes .ensures in
-    let row = c .before .before .usual-row2 .ensures in (
-      rw (c .before .before .before .before .before .before .before .before .before .before .before .before .before .before .right2 .given .1) (then (pushes .0) (rw (c .before .before .before .before .before .plain-cell4 .ensures, c .before .before .before .before .plain-cell5 .ensures) at (row .0))),
-      omega (arith, pushes .1, row .1, c .before .before .before .before .before .before .before .before .before .before .before .before .before .before .before .before .before .pre .0 .1),
+    let row = c .before .before .usual-row2 .ensures in
+    let push = c .before .before .before .before .before .before .before .before .before .before .before .push-of .ensures in (
+      rw (c .before .before .before .before .before .before .before .before .before .before .before .before .before .right2 .given .1) (then (rw push at (pushes .0)) (rw (c .before .before .before .before .before .plain-cell4 .ensures, c .before .before .before .before .plain-cell5 .ensures, push) at (row .0))),
+      omega (arith, pushes .1, row .1, c .before .before .before .before .before .before .before .before .before .before .before .before .before .before .before .before .pre .0 .1),
     )
 
 pub plain-rule-spec : {M : Type 1} → statement M
@@ -118,8 +118,7 @@ plain-rule-spec =
     plain-cell-requires-3
     usual-row-requires
     enum-known-right-2
-    cast-usual-row
-    cast-usual-row-2
+    push-of-requires
     plain-pushes-requires
     plain-cell-requires-4
     plain-cell-requires-5

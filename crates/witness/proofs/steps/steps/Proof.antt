@@ -19,7 +19,7 @@ steps-in-requires c κs =
     let s = c .before .before .before .before .before .before in
     let p = s .pre in
     let free : allZero (s .args .th .held) ≡ true = sym (c .before .before .before .all-zero .ensures) ∙ c .before .before .if1 .taken in
-    (p .0, (p .1, rw free (omega (arith, p .0 .1))))
+    (p .0, (p .1, rw free (omega (arith, p .0 .states .1))))
 
 slice-aggregate-steps-in-2 : tie.Need-slice-aggregate-steps-in-2
 slice-aggregate-steps-in-2 c = search needs
@@ -28,7 +28,7 @@ steps-in-requires-2 : tie.Need-steps-in-requires-2
 steps-in-requires-2 c κs =
     let s = c .before .before .before .before .before .before in
     let p = s .pre in
-    (p .0, (p .1, omega (arith, controls-range (s .args .th) (s .args .g) .1, p .0 .1)))
+    (p .0, (p .1, omega (arith, controls-range (s .args .th) (s .args .g) .1, p .0 .states .1)))
 
 same-length : tie.Need-same-length
 same-length c = search needs

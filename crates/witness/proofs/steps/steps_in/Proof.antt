@@ -14,7 +14,7 @@ prepare-requires : tie.Need-prepare-requires
 prepare-requires c κs =
     let p = c .before .before .before .before .pre in
     let q = p .0 in
-    ((search needs, search needs), (q .0, q .1, q .2, q .4, q .5, q .6))
+    ((p .1 .1, search needs), (q .states .0, q .states .1, q .two, q .low, q .named, q .fits))
 
 cast-start-goal : tie.Need-cast-start-goal
 cast-start-goal c = search needs
@@ -30,12 +30,12 @@ pair-requires c κs =
     let c8 = c .before .before .before .before .before .before .before .before in
     let c13 = c8 .before .before .before .before .before in
     let a = c13 .args in
-    let p = c13 .pre in
+    let q = c13 .pre .0 in
     let S = c .before .before .before .start-goal .ensures in
-    let line = digits-states (a .g) (2 * suc (a .n)) (a .v) (p .0 .4) in
-    let r = ready (c8 .prepare .ensures) (p .0 .2) (p .0 .6) (p .0 .5) (length-digits (a .g) (2 * suc (a .n)) (a .v)) line (a .start)
+    let line = digits-states (a .g) (2 * suc (a .n)) (a .v) (q .low) in
+    let r = ready (c8 .prepare .ensures) (q .two) (q .fits) (q .named) (length-digits (a .g) (2 * suc (a .n)) (a .v)) line (a .start)
     (S .first) (S .last) in
-    (rw (S .goal) r, (omega arith, p .1 .0 .1, omega (arith, p .1 .0 .2)))
+    (rw (S .goal) r, (omega arith, q .most, omega (arith, c13 .pre .1 .0)))
 
 same-length : tie.Need-same-length
 same-length c = search needs
@@ -49,15 +49,15 @@ returns c =
     let c11 = c6 .before .before .before .before .before in
     let c16 = c11 .before .before .before .before .before in
     let a = c16 .args in
-    let p = c16 .pre in
+    let q = c16 .pre .0 in
     let S = c6 .start-goal .ensures in
     let K = c11 .prepare .ensures in
     let size = length-digits (a .g) (2 * suc (a .n)) (a .v) in
-    let line = digits-states (a .g) (2 * suc (a .n)) (a .v) (p .0 .4) in
-    written K (p .0 .2) (p .0 .6) (p .0 .5) size line (a .start) (S .first) (S .last)
-    (rw (S .goal) at (c .before .before .pair .ensures) (setting K (p .0 .2) (p .0 .6) (p .0 .5) size line) _
-    (stands K (p .0 .2) (p .0 .6) (p .0 .5) size line (a .start) (S .first) (S .last))
-    (splits K (p .0 .2) (p .0 .6) (p .0 .5) size line (a .start) (S .first) (S .last) (p .1 .0 .1) (p .1 .0 .0)))
+    let line = digits-states (a .g) (2 * suc (a .n)) (a .v) (q .low) in
+    written K (q .two) (q .fits) (q .named) size line (a .start) (S .first) (S .last)
+    (rw (S .goal) at (c .before .before .pair .ensures) (setting K (q .two) (q .fits) (q .named) size line) _
+    (stands K (q .two) (q .fits) (q .named) size line (a .start) (S .first) (S .last))
+    (splits K (q .two) (q .fits) (q .named) size line (a .start) (S .first) (S .last) (q .most) (q .least)))
 
 pub steps-in-spec : {M : Type 1} → statement M
 steps-in-spec =
