@@ -3,10 +3,9 @@
 use mathlib.Core.Bool.{Bool, true, false, not}
 use mathlib.Core.List.{List, [], _∷_}
 use mathlib.Core.Logic.{_↔_}
-use mathlib.Core.Path.{_≡_, refl, sym}
+use mathlib.Core.Path.{_≡_, refl}
 use Prim.Native.Nat.{ℕ, zero, suc, _+_, _-_, _/_, _%_, _^_, _≤_, _<_}
-use native.Mathlib.Decide.{decLt}
-use native.Mathlib.Nat.{le-antisymm, zero-div}
+use native.Mathlib.Nat.{zero-div}
 use native.Mathlib.Numerals.{add-one}
 use native.Mathlib.Omega.{arith}
 use lib.Dec.{T, eqb}
@@ -15,22 +14,15 @@ use lib.Seq.{drop-cons}
 use borrow.Author.Tests.{eq-eqb, ne-eqb}
 use Rattle.model.specs.Bits.{bitAt, allZero}
 use Rattle.model.specs.Valid.{freeFrom}
-use Rattle.model.proofs.Tests.{passed, both, equal, negated}
+use Rattle.model.proofs.Tests.{passed, both, equal, negated, each-from}
 
 -- No mark stands on n rule numbers from r on exactly if none stands on each of them.
 pub free : (l : List ℕ) (n r : ℕ) → T (freeFrom l r n) ↔ ((i : ℕ) → r ≤ i → i < r + n → bitAt l i ≡ false)
 unfolding freeFrom
-free l zero r = (λ h i a b. absurd (omega arith), λ h. tt)
-free l (suc n) r =
-    let first = both (not (bitAt l r)) (freeFrom l (suc r) n) in
-    let rest = free l n (suc r) in (
-      λ h i a b.
-          elim (decLt r i) [
-            | yes k ↦ rest .0 (first .0 h .1) i k (omega arith)
-            | no k ↦ rw (sym (le-antisymm a (omega arith))) (negated (bitAt l r) .0 (first .0 h .0))
-          ],
-      λ h. first .1 (negated (bitAt l r) .1 (h r (omega arith) (omega arith)), rest .1 (λ i a b. h i (omega arith) (omega arith))),
-    )
+free l = each-from (λ r n. T (freeFrom l r n)) (λ i. bitAt l i ≡ false) (λ r. tt) λ r n.
+    let test = both (not (bitAt l r)) (freeFrom l (suc r) n) in
+    let clear = negated (bitAt l r) in
+    (λ h. let z = test .0 h in (clear .0 (z .0), z .1), λ f. test .1 (clear .1 (f .0), f .1))
 
 -- The rule numbers from r on, of 64.
 abbrev pub freeOn : List ℕ → ℕ → Bool

@@ -3,10 +3,8 @@
 use mathlib.Core.Bool.{Bool, true, false}
 use mathlib.Core.List.{List, _∷_}
 use mathlib.Core.Logic.{_↔_, Iff·rfl}
-use mathlib.Core.Path.{_≡_, refl, sym}
+use mathlib.Core.Path.{_≡_, refl}
 use Prim.Native.Nat.{ℕ, zero, suc, _+_, _-_, _≤_, _<_}
-use native.Mathlib.Decide.{decLt}
-use native.Mathlib.Nat.{le-antisymm}
 use native.Mathlib.Omega.{arith}
 use lib.Dec.{T, ltb}
 use borrow.Author.Tests.{ltb-true}
@@ -22,7 +20,7 @@ use Rattle.model.specs.Order.{keyOf, above}
 use Rattle.model.specs.Results.{refuse, firstOf}
 use Rattle.model.specs.Rules.{ruleAt, heldAt}
 use Rattle.model.proofs.Marks.{free}
-use Rattle.model.proofs.Tests.{order, tests}
+use Rattle.model.proofs.Tests.{order, each-from, tests}
 use Rattle.model.specs.Valid.{rangeFault, topFault, headFault, symbolFault, rightFault, ruleFault, rulesFault, threadFault, freeFrom, markFault, marksFault, faultOf, Valid}
 
 -- No fault of checks in order is no fault of the first and none of the others.
@@ -58,32 +56,14 @@ rule g r = (
   λ f. simp (checks, right) (f .state, (f .top, (f .next, (f .symbols, refl)))),
 )
 
--- A rule that passes both of its checks is in range and above the one before it.
-checked : (g : ℕ) (t : Thread) (r n : ℕ)
-    → (rulesFault g t r (suc n) ≡ 0) ↔ (RuleFits g (ruleAt t r) × T (above t r) × (rulesFault g t (suc r) n ≡ 0))
-unfolding rulesFault firstOf
-checked g t r n = (
-  λ h. let z = simp (none, passes, rule) at h in (z .0, z .1 .0, z .1 .1 .0),
-  λ f. simp (none, passes, rule) (f .0, (f .1, (f .2, refl))),
-)
-
--- No fault of n rules from number r on is none of each.
+-- No fault of n rules from number r on is none of each: it is in range and above the one before it.
 rules : (g : ℕ) (t : Thread) (n r : ℕ)
     → (rulesFault g t r n ≡ 0) ↔ ((i : ℕ) → r ≤ i → i < r + n → RuleFits g (ruleAt t i) × T (above t i))
-unfolding rulesFault
-rules g t zero r = (λ h i a b. absurd (omega arith), λ h. refl)
-rules g t (suc n) r =
-    let first = checked g t r n in
-    let rest = rules g t n (suc r) in (
-      λ h i a b.
-          let z = first .0 h in
-          elim (decLt r i) [
-            | yes l ↦ rest .0 (z .2) i l (omega arith)
-            | no l ↦ rw (sym (le-antisymm a (omega arith))) (z .0, z .1)
-          ],
-      λ h.
-          let z = h r (omega arith) (omega arith) in
-          first .1 (z .0, z .1, rest .1 (λ i a b. h i (omega arith) (omega arith))),
+unfolding rulesFault firstOf
+rules g t =
+    each-from (λ r n. rulesFault g t r n ≡ 0) (λ i. RuleFits g (ruleAt t i) × T (above t i)) (λ r. refl) λ r n. (
+      λ h. let z = simp (none, passes, rule) at h in ((z .0, z .1 .0), z .1 .1 .0),
+      λ f. simp (none, passes, rule) (f .0 .0, (f .0 .1, (f .1, refl))),
     )
 
 -- Each of n rules is above the one before it exactly if their keys ascend.
@@ -116,9 +96,11 @@ thread g t =
           simp checks (f .count, (none, refl)),
     )
 
--- No mark that the list lacks, where the list is not too long.
-marks : (t : Thread) → t .count ≤ 64
-    → (markFault (t .held) (t .count) ≡ 0) ↔ ((r : ℕ) → t .count ≤ r → r < 64 → heldAt t r ≡ false)
+-- No mark stands on a rule number that the list lacks.
+abbrev pub Free : Thread → Type 0
+Free t = (r : ℕ) → t .count ≤ r → r < 64 → heldAt t r ≡ false
+
+marks : (t : Thread) → t .count ≤ 64 → (markFault (t .held) (t .count) ≡ 0) ↔ Free t
 unfolding markFault
 marks t h =
     let all : t .count + (64 - t .count) ≡ 64 = omega arith in
@@ -126,9 +108,19 @@ marks t h =
     let none = passes 11 (freeFrom (t .held) (t .count) (64 - t .count)) refl in
     (λ e. each .0 (none .0 e), λ f. none .1 (each .1 f))
 
+-- The same of both threads, where no list is too long.
+pub marks-free : (m : Model) → m .a .count ≤ 64 → m .b .count ≤ 64 → (marksFault m ≡ 0) ↔ (Free (m .a) × Free (m .b))
+unfolding marksFault firstOf
+marks-free m h k =
+    let a = marks (m .a) h in
+    let b = marks (m .b) k in (
+      λ e. let z = simp none at e in (a .0 (z .0), b .0 (z .1 .0)),
+      λ f. simp none (a .1 (f .0), (b .1 (f .1), refl)),
+    )
+
 -- A model is valid exactly if every used place of it is in range and its rules ascend.
 pub valid-fits : (m : Model) → Valid m ↔ Fits m
-unfolding faultOf headFault rangeFault marksFault firstOf
+unfolding faultOf headFault rangeFault firstOf
 valid-fits m = (
   λ h.
       let z = simp (checks, top) at h in
@@ -137,21 +129,19 @@ valid-fits m = (
       let g = range .0 in
       let a = thread (m .g) (m .a) .0 (z .1 .0) in
       let b = thread (m .g) (m .b) .0 (z .1 .1 .0) in
-      let freeA = marks (m .a) (a .count) .0 (z .1 .1 .1 .0 .0) in
-      let freeB = marks (m .b) (b .count) .0 (z .1 .1 .1 .0 .1 .0) in
+      let free = marks-free m (a .count) (b .count) .0 (z .1 .1 .1 .0) in
       record {
         g = g;
         k = range .1 .0;
         start = range .1 .1 .0;
         target = range .1 .1 .1 .0;
-        a = record { first = head .1 .1 .0; top = head .0; count = a .count; rules = a .each; order = a .order; free = freeA };
-        b = record { first = head .1 .1 .1 .0; top = head .1 .0; count = b .count; rules = b .each; order = b .order; free = freeB };
+        a = record { first = head .1 .1 .0; top = head .0; count = a .count; rules = a .each; order = a .order; free = free .0 };
+        b = record { first = head .1 .1 .1 .0; top = head .1 .0; count = b .count; rules = b .each; order = b .order; free = free .1 };
       },
   λ f.
       let a = thread (m .g) (m .a) .1 (record { count = f .a .count; each = f .a .rules; order = f .a .order }) in
       let b = thread (m .g) (m .b) .1 (record { count = f .b .count; each = f .b .rules; order = f .b .order }) in
-      let freeA = marks (m .a) (f .a .count) .1 (f .a .free) in
-      let freeB = marks (m .b) (f .b .count) .1 (f .b .free) in
+      let free = marks-free m (f .a .count) (f .b .count) .1 (f .a .free, f .b .free) in
       simp (checks, top)
-      (((f .g, (f .k, (f .start, (f .target, refl)))), (f .a .top, (f .b .top, (f .a .first, (f .b .first, refl))))), (a, (b, ((freeA, (freeB, refl)), refl)))),
+      (((f .g, (f .k, (f .start, (f .target, refl)))), (f .a .top, (f .b .top, (f .a .first, (f .b .first, refl))))), (a, (b, (free, refl)))),
 )

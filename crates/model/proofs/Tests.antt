@@ -2,7 +2,10 @@
 use mathlib.Core.Bool.{Bool, true, false, not, _&&_}
 use mathlib.Core.Logic.{_↔_}
 use mathlib.Core.Path.{_≡_, refl, subst}
-use Prim.Native.Nat.{ℕ, _≤_}
+use Prim.Native.Nat.{ℕ, zero, suc, _+_, _≤_, _<_}
+use native.Mathlib.Decide.{decLt}
+use native.Mathlib.Nat.{le-antisymm}
+use native.Mathlib.Omega.{arith}
 use borrow.Author.Needs.{needs}
 use borrow.Author.Tests.{le-leb, lt-leb, le-ltb, lt-ltb}
 use lib.Dec.{T, leb, eqb, leb→le, le→leb, eqb→eq, eqb-refl}
@@ -34,6 +37,21 @@ order a b = (leb→le a b, le→leb a b)
 -- An equation of numbers.
 pub equal : (a b : ℕ) → T (eqb a b) ↔ (a ≡ b)
 equal a b = (eqb→eq a b, λ e. subst (λ n. T (eqb a n)) e (eqb-refl a))
+
+-- What is said of n numbers from r on by recursion holds exactly if it holds of each of them.
+pub each-from : (P : ℕ → ℕ → Type 0) (Q : ℕ → Type 0) → ((r : ℕ) → P r 0) → ((r n : ℕ) → P r (suc n) ↔ (Q r × P (suc r) n))
+    → (n r : ℕ) → P r n ↔ ((i : ℕ) → r ≤ i → i < r + n → Q i)
+each-from P Q none step zero r = (λ h i a b. absurd (omega arith), λ h. none r)
+each-from P Q none step (suc n) r =
+    let rest = each-from P Q none step n (suc r) in (
+      λ h i a b.
+          let z = step r n .0 h in
+          elim (decLt r i) [
+            | yes l ↦ rest .0 (z .1) i l (omega arith)
+            | no l ↦ subst Q (le-antisymm a (omega arith)) (z .0)
+          ],
+      λ h. step r n .1 (h r (omega arith) (omega arith), rest .1 (λ i a b. h i (omega arith) (omega arith))),
+    )
 
 -- All of them, to rewrite a test by.
 pub ruleset tests = (both, order, equal)

@@ -1,21 +1,17 @@
--- Marks of held rules both ways: eight bytes that are not all zero are read as they are written, and absent ones are eight zeros. And
--- of a model whose other places are in range, marks alone can be at fault.
+-- Marks of held rules both ways: eight bytes that are not all zero are read as they are written, and absent ones are eight zeros.
 use mathlib.Core.Bool.{Bool, true, false, not}
 use mathlib.Core.List.{List, [], _∷_, _++_}
 use mathlib.Core.Path.{_≡_, refl, sym, ap, _∙_}
-use Prim.Native.Nat.{ℕ, zero, suc, _-_}
+use Prim.Native.Nat.{ℕ}
 use native.Mathlib.Omega.{arith}
 use lib.Dec.{T, T-not, leb, eqb}
 use lib.ListN.{length, getD, take, drop, replicate, length-append, drop-of-length-le, take-append-drop}
 use lib.Seq.{take-all, take-at, drop-at, drop-cons, length-take-le}
 use borrow.Author.Tests.{le-leb}
 use Rattle.model.specs.declared.Model.{Model}
-use Rattle.model.specs.declared.Thread.{Thread}
 use Rattle.model.specs.Bits.{allZero}
-use Rattle.model.specs.Order.{above}
 use Rattle.model.specs.Results.{accepted, firstOf}
-use Rattle.model.specs.Valid.{Valid, faultOf, headFault, rangeFault, rulesFault, threadFault, markFault, marksFault}
-use Rattle.model.proofs.Checks.{closes}
+use Rattle.model.specs.Valid.{markFault, marksFault}
 use Rattle.model.proofs.Marks.{all-free}
 use Rattle.model.proofs.Results.{checked}
 use Rattle.model.proofs.Tests.{both, order, equal, failed}
@@ -89,19 +85,6 @@ marks-forth true bs e =
       size = size;
     })
 
--- Three checks that find nothing, whatever comes after them, leave the answer to what does.
-skips : (x y z : ℕ) (ms ns : List ℕ) → firstOf (x ∷ y ∷ z ∷ ms) ≡ 0 → firstOf (x ∷ y ∷ z ∷ ns) ≡ firstOf ns
-unfolding firstOf
-skips zero zero zero ms ns e = refl
-skips zero zero (suc z) ms ns e = absurd (omega arith)
-skips zero (suc y) z ms ns e = absurd (omega arith)
-skips (suc x) y z ms ns e = absurd (omega arith)
-
--- A valid model has no fault of marks.
-pub valid-marks : (m : Model) → Valid m → marksFault m ≡ 0
-unfolding faultOf
-valid-marks m v = closes refl ∙ (sym (skips (headFault m) (threadFault (m .g) (m .a)) (threadFault (m .g) (m .b)) _ _ v) ∙ v)
-
 -- Marks of which none stands are on no rule that a list lacks ..
 no-fault : (marks : List ℕ) (count : ℕ) → allZero marks ≡ true → markFault marks count ≡ 0
 unfolding markFault
@@ -111,33 +94,3 @@ no-fault marks count z = rw (all-free marks count z)
 pub unheld : (m : Model) → allZero (m .a .held) ≡ true → allZero (m .b .held) ≡ true → marksFault m ≡ 0
 unfolding marksFault firstOf
 unheld m a b = rw (no-fault (m .a .held) (m .a .count) a, no-fault (m .b .held) (m .b .count) b)
-
--- A thread without its marks ..
-abbrev unmarkedThread : Thread → Thread
-unmarkedThread t = record { first = t .first; top = t .top; held = noMarks; count = t .count; rules = t .rules }
-
--- .. and a model without those of its threads.
-abbrev pub unmarked : Model → Model
-unmarked m =
-    record {
-      g = m .g;
-      k = m .k;
-      start = m .start;
-      target = m .target;
-      a = unmarkedThread (m .a);
-      b = unmarkedThread (m .b);
-    }
-
--- The rules of a thread are at fault or not without its marks as with them.
-unmarked-rules : (n g : ℕ) (t : Thread) (r : ℕ) → rulesFault g (unmarkedThread t) r n ≡ rulesFault g t r n
-unfolding rulesFault above
-unmarked-rules zero g t r = refl
-unmarked-rules (suc n) g t zero = rw (unmarked-rules n g t 1)
-unmarked-rules (suc n) g t (suc r) = rw (unmarked-rules n g t (suc (suc r)))
-
--- A model that is valid without its marks has no other fault than theirs.
-pub only-marks : (m : Model) → Valid (unmarked m) → faultOf m ≡ marksFault m
-unfolding faultOf headFault rangeFault threadFault
-only-marks m v =
-    let rules = rw (unmarked-rules (m .a .count) (m .g) (m .a) 0, unmarked-rules (m .b .count) (m .g) (m .b) 0) at v in
-    skips (headFault m) (threadFault (m .g) (m .a)) (threadFault (m .g) (m .b)) _ _ rules ∙ sym (closes refl)

@@ -14,9 +14,9 @@ use Rattle.model.specs.declared.Thread.{Thread}
 use Rattle.model.specs.Bits.{bit}
 use Rattle.model.specs.Results.{refused, accepted}
 use Rattle.model.specs.Rules.{zeroRule}
-use Rattle.model.specs.Valid.{Valid, faultOf, marksFault, SameThread, Same, Places}
+use Rattle.model.specs.Valid.{Valid, marksFault, SameThread, Same, Places}
 use Rattle.model.proofs.Alike.{same-valid}
-use Rattle.model.proofs.Ranges.{valid-fits}
+use Rattle.model.proofs.Ranges.{marks-free, valid-fits}
 use Rattle.model.proofs.Results.{apart, undue}
 use Rattle.record.specs.declared.Reading.{Reading}
 use Rattle.record.specs.Kept.{Unused, Kept, Keeps}
@@ -26,7 +26,6 @@ use Rattle.record.specs.Older.{targetByte}
 use Rattle.record.specs.Written.{ReadsBack}
 use Rattle.writer.specs.Writer.{weightOf, rulesOf, mapOf, secondOf, secondMap, headBytes, recordOf}
 use Rattle.record.proofs.OneField.{parted, carried, value-same}
-use Rattle.record.proofs.HeldMarks.{valid-marks, unmarked, only-marks}
 use Rattle.record.proofs.Maps.{HeadBits, head-sum}
 use Rattle.record.proofs.ThreadRules.{rules-back, RulesRead, rules-forth, thread-fits, rules-bytes}
 use Rattle.record.proofs.Heads.{headOf, headWith, map-bits, head-back, HeadRead, head-forth}
@@ -74,13 +73,14 @@ pub front-back : (m : Model) → Valid m → Places m → (rest : List ℕ) → 
 unfolding parseFront headOf tidy
 front-back m v p rest =
     let f = valid-fits m .0 v in
+    let t = valid-fits (tidy m) .0 (same-valid (tidy-model m v p) v) in
     let b = map-bits m in
     rw (
       record-bytes m rest,
       head-back m f p (rulesOf (m .a) ++ (rulesOf (m .b) ++ rest)),
       rules-back (m .a) (f .a) (p .a) (rulesOf (m .b) ++ rest) (b .bit6),
       rules-back (m .b) (f .b) (p .b) rest (b .bit7),
-      valid-marks (tidy m) (same-valid (tidy-model m v p) v),
+      marks-free (tidy m) (t .a .count) (t .b .count) .1 (t .a .free, t .b .free),
     )
 
 -- What reading a record at the front tells.
@@ -103,21 +103,21 @@ same-map h ra rb k b = head-sum (h .map) k b
 padded-size : (rs : List Rule) → length rs ≤ 64 → length (rs ++ replicate (64 - length rs) zeroRule) ≡ 64
 padded-size rs h = simp (length-append, length-replicate) (omega arith)
 
--- Of a head and rules that were read, marks alone can be at fault.
-parts-fault : {bs m₁ m₂ rest : List ℕ} {h : Head} {ra rb : List Rule} → HeadRead bs h m₁
+-- A head and rules that were read make a valid model, where no mark is at fault.
+parts-valid : {bs m₁ m₂ rest : List ℕ} {h : Head} {ra rb : List Rule} → HeadRead bs h m₁
     → RulesRead (h .g) (bit 6 (h .map)) m₁ ra m₂ → RulesRead (h .g) (bit 7 (h .map)) m₂ rb rest
-    → faultOf (modelOf h ra rb) ≡ marksFault (modelOf h ra rb)
-parts-fault {h = h} {ra} {rb} hd a b =
-    only-marks (modelOf h ra rb)
-    (valid-fits (unmarked (modelOf h ra rb)) .1
+    → marksFault (modelOf h ra rb) ≡ 0 → Valid (modelOf h ra rb)
+parts-valid {h = h} {ra} {rb} hd a b z =
+    let free = marks-free (modelOf h ra rb) (a .most) (b .most) .0 z in
+    valid-fits (modelOf h ra rb) .1
     (record {
       g = hd .g;
       k = hd .k;
       start = hd .start;
       target = hd .target;
-      a = thread-fits (h .g) (h .a) (h .second .a .top) ra (hd .first) (hd .extraA .top) (a .most) (a .fits);
-      b = thread-fits (h .g) (h .b) (h .second .b .top) rb (hd .second) (hd .extraB .top) (b .most) (b .fits);
-    }))
+      a = thread-fits (h .g) (h .a) (h .second .a) ra (hd .first) (hd .extraA .top) (a .most) (a .fits) (free .0);
+      b = thread-fits (h .g) (h .b) (h .second .b) rb (hd .second) (hd .extraB .top) (b .most) (b .fits) (free .1);
+    })
 
 -- Head and rules that were read make the record, where no mark is at fault.
 front-made : {bs m₁ m₂ rest : List ℕ} {h : Head} {ra rb : List Rule} → HeadRead bs h m₁
@@ -130,7 +130,7 @@ front-made {bs} {m₁} {m₂} {rest} {h} {ra} {rb} hd a b z =
           let small : h .map < 256 = subst (λ l. getD l 0 0 < 256) (hd .bytes) k in
           let map = same-map h ra rb small (hd .bits (eqb (length ra) 0) (eqb (length rb) 0) (a .stands) (b .stands)) in
           rw (record-bytes (modelOf h ra rb) rest, map, rules-bytes (h .b) (h .second .b) rb rest, ← b .bytes, rules-bytes (h .a) (h .second .a) ra m₂, ← a .bytes) (hd .bytes);
-      valid = parts-fault hd a b ∙ z;
+      valid = parts-valid hd a b z;
       places = record {
         a = padded-size ra (a .most);
         b = padded-size rb (b .most);

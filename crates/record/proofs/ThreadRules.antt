@@ -9,14 +9,12 @@ use lib.ListN.{length, getD, take, replicate}
 use lib.Seq.{take-append-seam, length-take-le}
 use Rattle.model.specs.declared.Rule.{Rule}
 use Rattle.model.specs.declared.Thread.{Thread}
-use Rattle.model.specs.declared.Top.{Top}
-use Rattle.model.specs.Bits.{allZero}
 use Rattle.model.specs.Order.{keyOf}
 use Rattle.model.specs.Results.{accepted}
 use Rattle.model.specs.Rules.{zeroRule}
 use Rattle.model.specs.Fits.{RuleFits, TopFits, ThreadFits}
-use Rattle.model.proofs.Marks.{no-bit}
-use Rattle.record.specs.Reader.{parseField, parseRuleList, parseRules, noMarks, threadFrom}
+use Rattle.model.proofs.Ranges.{Free}
+use Rattle.record.specs.Reader.{parseField, parseRuleList, parseRules, threadFrom}
 use Rattle.writer.specs.Writer.{fieldOf, ruleListOf, rulesOf, Extra}
 use Rattle.record.proofs.OneField.{parted, field-back, field-forth}
 use Rattle.record.proofs.RuleLists.{RulesFit, list-back, list-forth}
@@ -86,18 +84,17 @@ order-at g least (x ∷ []) more f r h = absurd (omega arith)
 order-at g least (x ∷ y ∷ ys) more f zero h = f .2 .1
 order-at g least (x ∷ y ∷ ys) more f (suc r) h = order-at g (suc (keyOf x)) (y ∷ ys) more (f .2) r (omega arith)
 
--- A thread that was read is in range, its marks apart.
-pub thread-fits : (g first : ℕ) (top : Top) (rs : List Rule) → first ≤ 15 → TopFits top → length rs ≤ 64 → RulesFit g 0 rs
-    → ThreadFits g (threadFrom first (record { top = top; held = noMarks }) rs)
-unfolding allZero
-thread-fits g first top rs h t k f =
+-- A thread that was read is in range, where its marks are on rules of its list.
+pub thread-fits : (g first : ℕ) (x : Extra) (rs : List Rule) → first ≤ 15 → TopFits (x .top) → length rs ≤ 64 → RulesFit g 0 rs
+    → Free (threadFrom first x rs) → ThreadFits g (threadFrom first x rs)
+thread-fits g first x rs h t k f free =
     record {
       first = h;
       top = t;
       count = k;
       rules = fit-at g 0 rs (replicate (64 - length rs) zeroRule) f;
       order = order-at g 0 rs (replicate (64 - length rs) zeroRule) f;
-      free = λ r l u. no-bit noMarks tt r;
+      free = free;
     }
 
 -- The bytes of a thread's rules that were read.
