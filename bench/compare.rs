@@ -1,5 +1,5 @@
 // Before anything is timed: both sides must say the same of a model, and each schedule must reach the target on both, not before its
-// last step, and give the same page.
+// last step, and give the same page; and both must make the same one of two models.
 use crate::{numbers, proved, reference};
 
 pub fn agree(record: &[u8]) -> Result<(), String> {
@@ -39,6 +39,40 @@ fn same_replay(record: &[u8], schedule: &[u8], kinds: &[u64]) -> Result<(), Stri
         return Err(format!("replay says {} and {}", last.0, last.1));
     }
     Ok(())
+}
+
+// Two models made one, in a store with room and, where they make one, in a store without. It is a model like the others, and its verdict
+// is no later than theirs.
+pub fn agree_merged(first: &[u8], second: &[u8]) -> Result<(), String> {
+    let Some(whole) = same_merger(first, second, numbers::RECORD)? else { return Ok(()) };
+    agree(&whole)?;
+    if same_merger(first, second, whole.len() - 1)?.is_some() {
+        return Err("merge takes a short store".to_string());
+    }
+    let [a, b, both] = [first, second, &whole].map(|record| rank(proved::judge(record, &mut [0; 683], &mut [0; 8190])));
+    if a.min(b) < both {
+        return Err("the verdict is later than that of a part".to_string());
+    }
+    Ok(())
+}
+
+// Found by its steps, then Long, then Clear.
+fn rank(verdict: u64) -> usize {
+    match numbers::kind(verdict) {
+        numbers::FOUND => numbers::steps(verdict),
+        numbers::LONG => 4096,
+        _ => 4097,
+    }
+}
+
+// The record of both, where there is one. The whole stores are compared.
+fn same_merger(first: &[u8], second: &[u8], size: usize) -> Result<Option<Vec<u8>>, String> {
+    let (mut store, mut other) = (vec![0xAA; size], vec![0xAA; size]);
+    let merged = (proved::merge(first, second, &mut store), reference::merge(first, second, &mut other));
+    if merged.0 != merged.1 || store != other {
+        return Err(format!("merge says {} and {}, or the records differ", merged.0, merged.1));
+    }
+    Ok(numbers::written(merged.0).map(|length| store[..length].to_vec()))
 }
 
 // The whole stores are compared, so neither side may write beyond its page.

@@ -1,4 +1,4 @@
-// Times the proved library beside an unproved program of the same algorithm, on fixed models, and prints two tables.
+// Times the proved library beside an unproved program of the same algorithm, but for merging, on fixed models, and prints two tables.
 mod compare;
 mod models;
 mod numbers;
@@ -35,12 +35,13 @@ type Call = fn(&Case) -> Pair;
 
 // The calls, and which families with tops, and which with held rules, have a row: all for the judgement, and for each other call the
 // dense ones with some in both threads.
-const CALLS: [(&str, Call, RangeInclusive<usize>, RangeInclusive<usize>); 5] = [
+const CALLS: [(&str, Call, RangeInclusive<usize>, RangeInclusive<usize>); 6] = [
     ("judgement", judgement, 0..=3, 0..=5),
     ("line table", line_table, 1..=1, 1..=1),
     ("replay", replay, 1..=1, 1..=1),
     ("page", page, 1..=1, 1..=1),
     ("read", read, 1..=1, 1..=1),
+    ("merge", merge, 1..=1, 1..=1),
 ];
 
 // Each row is timed in so many rounds, and the best counts: a machine that is busy for some seconds spoils one of them.
@@ -62,6 +63,13 @@ fn main() {
                 eprintln!("error: {}, model {i}: {what}", family.name);
                 std::process::exit(1);
             }
+        }
+    }
+
+    for (i, [first, second]) in models::pairs().iter().enumerate() {
+        if let Err(what) = compare::agree_merged(first, second) {
+            eprintln!("error: pair {i}: {what}");
+            std::process::exit(1);
         }
     }
 
@@ -164,6 +172,15 @@ fn page(case: &Case) -> Pair {
 
 fn read(case: &Case) -> Pair {
     best(|| proved::read(black_box(&case.record)), || reference::read(black_box(&case.record)))
+}
+
+// A model with itself: as many rules as can be are read, compared and written.
+fn merge(case: &Case) -> Pair {
+    let (mut store, mut other) = ([0; numbers::RECORD], [0; numbers::RECORD]);
+    best(
+        || proved::merge(black_box(&case.record), &case.record, &mut store),
+        || reference::merge(black_box(&case.record), &case.record, &mut other),
+    )
 }
 
 // The best of two samples of each side, turn by turn. Short calls are repeated in a sample.

@@ -1,4 +1,7 @@
 // The fixed models, as records. Random ones come from a generator of our own with a fixed seed, so every run has the same.
+mod pairs;
+
+pub use pairs::pairs;
 use std::collections::BTreeSet;
 use Right::{Push, Remove, Swap};
 
@@ -8,7 +11,7 @@ pub struct Family {
 }
 
 // The new symbols. Fewer come first, as in a record.
-#[derive(PartialEq, Eq, PartialOrd, Ord)]
+#[derive(Clone, Copy, PartialEq, Eq, PartialOrd, Ord)]
 enum Right {
     Remove,
     Swap(u8),

@@ -1,12 +1,16 @@
 // The numbers that the calls answer: a kind in the low byte, and what it carries from bit 16 on. A refusal's kind is its own number.
 pub const DONE: u64 = 0;
 pub const HELD: u64 = 12;
+pub const WRITTEN: u64 = 32;
 pub const CLEAR: u64 = 33;
 pub const LONG: u64 = 34;
 pub const FOUND: u64 = 35;
 pub const STOPPED: u64 = 36;
 pub const REACHED: u64 = 37;
 pub const PAGED: u64 = 40;
+
+// The bytes of the longest record.
+pub const RECORD: usize = 668;
 
 // The bytes of the longest page: 4,095 steps and the foot, 73 bytes each.
 pub const PAGE: usize = 299_008;
@@ -17,6 +21,11 @@ pub fn packed(kind: u64, carried: u64) -> u64 {
 
 pub fn kind(number: u64) -> u64 {
     number & 0xFF
+}
+
+// The length of the record that a merger wrote, where it did.
+pub fn written(number: u64) -> Option<usize> {
+    (kind(number) == WRITTEN).then_some((number >> 16) as usize)
 }
 
 // How many steps a schedule has that a judgement wrote: none, unless it is Found.

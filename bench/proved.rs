@@ -1,6 +1,7 @@
 // The proved library, over its C interface.
 extern "C" {
     fn turncheck_read(record: *const u8, n: usize) -> u64;
+    fn turncheck_merge(first: *const u8, n: usize, second: *const u8, m: usize, store: *mut u8, l: usize) -> u64;
     fn turncheck_lines(record: *const u8, n: usize, store: *mut u8, m: usize) -> u64;
     fn turncheck_judge(record: *const u8, n: usize, store: *mut u8, m: usize, schedule: *mut u8, l: usize) -> u64;
     fn turncheck_replay(record: *const u8, n: usize, schedule: *const u8, l: usize) -> u64;
@@ -11,6 +12,11 @@ extern "C" {
 
 pub fn read(record: &[u8]) -> u64 {
     unsafe { turncheck_read(record.as_ptr(), record.len()) }
+}
+
+pub fn merge(first: &[u8], second: &[u8], store: &mut [u8]) -> u64 {
+    let (n, m, l) = (first.len(), second.len(), store.len());
+    unsafe { turncheck_merge(first.as_ptr(), n, second.as_ptr(), m, store.as_mut_ptr(), l) }
 }
 
 pub fn lines(record: &[u8], store: &mut [u8]) -> u64 {

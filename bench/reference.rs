@@ -1,13 +1,15 @@
-// The yardstick: the same calls by the same algorithm, in plain Rust and with nothing proved. Records in; each call answers the
-// number that the proved library answers.
+// The yardstick: the same calls by the same algorithm, but for merging, in plain Rust and with nothing proved. Records in; each call
+// answers the number that the proved library answers.
 mod costs;
+mod merge;
 mod page;
 mod record;
 mod table;
 mod walk;
 mod witness;
+mod writer;
 
-use crate::numbers::{packed, CLEAR, DONE, FOUND, LONG, PAGED, REACHED, STOPPED};
+use crate::numbers::{packed, CLEAR, DONE, FOUND, LONG, PAGED, REACHED, STOPPED, WRITTEN};
 
 #[derive(Clone, Copy)]
 pub enum Right {
@@ -45,6 +47,14 @@ pub struct Model {
 pub fn read(record: &[u8]) -> u64 {
     match record::read(record) {
         Ok(_) => DONE,
+        Err(number) => number,
+    }
+}
+
+// The record of both models goes to the front of the store.
+pub fn merge(first: &[u8], second: &[u8], store: &mut [u8]) -> u64 {
+    match merge::merge(first, second, store) {
+        Ok(size) => packed(WRITTEN, size as u64),
         Err(number) => number,
     }
 }

@@ -1,9 +1,9 @@
 /* turncheck: a proved checker for races between two threads with stacks, as it is called from C.
  *
- * Each call takes the bytes of a model record, or of a tray of them, and answers a number. The number's kind, TURNCHECK_KIND, says what is answered: why
- * the call refuses (enum turncheck_refusal, 1 to 31), or what it found (enum turncheck_kind). A count or a state that belongs to the
- * answer stands above the kind, and a macro takes it out. A call that refuses changes no byte of any store. Nothing else is asked of
- * the bytes: any are taken.
+ * Each call takes the bytes of a model record, of two of them or of a tray, and answers a number. The number's kind, TURNCHECK_KIND, says
+ * what is answered: why the call refuses (enum turncheck_refusal, 1 to 31), or what it found (enum turncheck_kind). A count or a state that
+ * belongs to the answer stands above the kind, and a macro takes it out. A call that refuses changes no byte of any store. Nothing else is
+ * asked of the bytes: any are taken.
  *
  * The rules of a thread ascend, each above the one before it: by before state, before symbol, after state, number of new symbols, first new
  * symbol and second new symbol. So no rule stands twice, and a model has one record, however its rules were gathered.
@@ -51,13 +51,16 @@ enum turncheck_refusal {
     TURNCHECK_REFUSED_STEP_RULE = 10,      /* a step's rule is not in the list, or does not apply */
     TURNCHECK_REFUSED_MARK_RANGE = 11,     /* a rule number that the thread's list lacks is marked as held */
     TURNCHECK_REFUSED_STEP_HELD = 12,      /* the schedule leaves a turn after a held step, or ends after one */
-    TURNCHECK_REFUSED_RULE_ORDER = 13      /* a rule is not above the one before it in its thread's list */
+    TURNCHECK_REFUSED_RULE_ORDER = 13,     /* a rule is not above the one before it in its thread's list */
+    TURNCHECK_REFUSED_MERGE_HEADS = 14,    /* two models differ in G, K, start, target, a top or a first symbol */
+    TURNCHECK_REFUSED_MERGE_HELD = 15,     /* a rule is held in one model and free in the other */
+    TURNCHECK_REFUSED_MERGE_COUNT = 16     /* a thread has more than 64 rules in both models together */
 };
 
 /* What a call answers where it does not refuse. */
 enum turncheck_kind {
     TURNCHECK_DONE = 0,     /* turncheck_read: accepted; turncheck_lines: the table is filled */
-    TURNCHECK_WRITTEN = 32, /* turncheck_write: TURNCHECK_LENGTH bytes were written */
+    TURNCHECK_WRITTEN = 32, /* turncheck_write, turncheck_merge: TURNCHECK_LENGTH bytes were written */
     TURNCHECK_CLEAR = 33,   /* turncheck_judge: no run reaches the target */
     TURNCHECK_LONG = 34,    /* turncheck_judge: some run does, and each that does has more than 4,095 steps */
     TURNCHECK_FOUND = 35,   /* turncheck_judge: some run does, and a shortest that does has TURNCHECK_STEPS steps */
@@ -93,6 +96,14 @@ uint64_t turncheck_first(const uint8_t *tray, size_t tray_size);
 /* Reads a record and writes its model again, to the front of the store; the bytes beyond keep their value. The bytes are those of
  * the record. Answers TURNCHECK_WRITTEN with how many they are, or refusal 1 to 7, 11 or 13. */
 uint64_t turncheck_write(const uint8_t *record, size_t record_size, uint8_t *store, size_t store_size);
+
+/* Reads two records and makes their models one: the head that both have, and in each thread the rules of either, each once, in order and
+ * held as it was. Writes its record to the front of the store; the bytes beyond keep their value. If either model is Found, so is this one,
+ * in no more steps; if either is Long, this one is not Clear. Answers TURNCHECK_WRITTEN with how many bytes the record has, or a refusal:
+ * 1 to 6, 11 or 13 of the first record, then of the second; then 14; 15 in A or in B; 16 in A or in B; and last 7, for a store with fewer
+ * bytes. */
+uint64_t turncheck_merge(const uint8_t *first, size_t first_size, const uint8_t *second, size_t second_size, uint8_t *store,
+                         size_t store_size);
 
 /* Fills the line table of a record's model: bit p, in byte p div 8, lowest bit first, stands exactly if some run ends its turns
  * along the line at place p. Spare bits of the table's last byte are 0; the bytes beyond keep their value.

@@ -52,7 +52,7 @@ fn beyond(marks: u64, rules: &[Rule]) -> bool {
 }
 
 // A rule's place in the order of rules: its before state and symbol, its after state, how many new symbols it has, and these.
-fn key(rule: &Rule) -> usize {
+pub fn key(rule: &Rule) -> usize {
     let right = match rule.right {
         Right::Remove => 0,
         Right::Swap(a) => 256 + a * 16,

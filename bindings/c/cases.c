@@ -36,6 +36,8 @@ static void *call(void *unused) {
         answer = turncheck_judge(record.at, record.size, first.at, first.size, second.at, second.size);
     else if (strcmp(name, "replay") == 0)
         answer = turncheck_replay(record.at, record.size, first.at, first.size);
+    else if (strcmp(name, "merge") == 0)
+        answer = turncheck_merge(record.at, record.size, first.at, first.size, second.at, second.size);
     else if (strcmp(name, "page") == 0)
         answer = turncheck_page(record.at, record.size, first.at, first.size, second.at, second.size);
     return NULL;
@@ -158,18 +160,19 @@ static int stands(uint64_t number, size_t stack) {
 /* One case, by its words: the call, what is lent beside the record, the answer, what the stores then hold. */
 static int agrees(char **word, size_t stack) {
     char words[40];
-    int judge = strcmp(word[0], "judge") == 0, page = strcmp(word[0], "page") == 0;
-    int schedule = page || strcmp(word[0], "replay") == 0;
+    int judge = strcmp(word[0], "judge") == 0;
+    int pair = strcmp(word[0], "page") == 0 || strcmp(word[0], "merge") == 0; /* bytes that are read, and a store */
+    int bytes = pair || strcmp(word[0], "replay") == 0;
     int stores = judge ? 2 : strcmp(word[0], "write") == 0 || strcmp(word[0], "lines") == 0;
-    char **wanted = word + 1 + stores + schedule + page;
-    if (schedule) parse(word[1], &first);
+    char **wanted = word + 1 + stores + bytes + pair;
+    if (bytes) parse(word[1], &first);
     if (stores > 0) lend(size_of(word[1]), &first);
-    if (stores > 1 || page) lend(size_of(word[2]), &second);
+    if (stores > 1 || pair) lend(size_of(word[2]), &second);
     uint64_t n = on_thread(word[0], stack);
     tell(n, strcmp(word[0], "read") == 0, words, sizeof words);
     if (*wanted == NULL || strcmp(words, *wanted) != 0) return 0;
     if (TURNCHECK_KIND(n) == TURNCHECK_TAKEN) return stands(n, stack);
-    if (page) return holds(&second, wanted[1]);
+    if (pair) return holds(&second, wanted[1]);
     if (stores > 0 && !holds(&first, wanted[1])) return 0;
     if (stores > 1 && !holds(&second, wanted[2])) return 0;
     return !judge || TURNCHECK_IS_REFUSED(n) || judged(n, stack);

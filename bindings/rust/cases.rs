@@ -122,6 +122,11 @@ fn agrees(record: &[u8], word: &[&str], stack: usize) -> bool {
             let answer = on_thread(stack, || turncheck::lines(record, &mut store));
             told(answer, |()| "done".into()) == word[2] && expects(word.get(3), record, &store)
         }
+        "merge" => {
+            let (second, mut store) = (parse(word[1]), lent(word[2]));
+            let answer = on_thread(stack, || turncheck::merge(record, &second, &mut store));
+            told(answer, |n| format!("length:{n}")) == word[3] && expects(word.get(4), record, &store)
+        }
         "page" => {
             let (schedule, mut store) = (parse(word[1]), lent(word[2]));
             let answer = on_thread(stack, || turncheck::page(record, &schedule, &mut store));

@@ -1,6 +1,6 @@
 //! turncheck from Rust: a proved checker for races between two threads with stacks.
 //!
-//! Each call takes the bytes of a model record, or of a tray of them. A call that refuses changes no byte of any store.
+//! Each call takes the bytes of a model record, of two of them or of a tray. A call that refuses changes no byte of any store.
 //! The rules of a thread ascend, each above the one before it: by before state, before symbol, after state, number of new symbols, first
 //! new symbol and second new symbol. So no rule stands twice, and a model has one record, however its rules were gathered.
 //! A record may name the symbol that tops A's stack at the target, B's, or both. A run reaches the target if it ends with the target
@@ -49,6 +49,12 @@ pub enum Refusal {
     StepHeld = 12,
     /// A rule is not above the one before it in its thread's list.
     RuleOrder = 13,
+    /// Two models differ in G, K, start, target, a top or a first symbol.
+    MergeHeads = 14,
+    /// A rule is held in one model and free in the other.
+    MergeHeld = 15,
+    /// A thread has more than 64 rules in both models together.
+    MergeCount = 16,
 }
 
 /// A verdict on a model.
@@ -80,6 +86,14 @@ extern "C" {
     fn turncheck_read(record: *const u8, record_size: usize) -> u64;
     fn turncheck_first(tray: *const u8, tray_size: usize) -> u64;
     fn turncheck_write(record: *const u8, record_size: usize, store: *mut u8, store_size: usize) -> u64;
+    fn turncheck_merge(
+        first: *const u8,
+        first_size: usize,
+        second: *const u8,
+        second_size: usize,
+        store: *mut u8,
+        store_size: usize,
+    ) -> u64;
     fn turncheck_lines(record: *const u8, record_size: usize, lines: *mut u8, lines_size: usize) -> u64;
     fn turncheck_judge(
         record: *const u8,
@@ -133,6 +147,9 @@ fn refusal(number: u64) -> Refusal {
         11 => Refusal::MarkRange,
         12 => Refusal::StepHeld,
         13 => Refusal::RuleOrder,
+        14 => Refusal::MergeHeads,
+        15 => Refusal::MergeHeld,
+        16 => Refusal::MergeCount,
         _ => panic!("turncheck: the library answers {number:#x}, which this wrapper does not know"),
     }
 }
@@ -165,6 +182,19 @@ pub fn first(tray: &[u8]) -> Result<Option<First<'_>>, Refusal> {
 /// were written.
 pub fn write(record: &[u8], store: &mut [u8]) -> Result<usize, Refusal> {
     let number = unsafe { turncheck_write(record.as_ptr(), record.len(), store.as_mut_ptr(), store.len()) };
+    match parts(number) {
+        [WRITTEN, length, 0, 0] => Ok(length.into()),
+        _ => Err(refusal(number)),
+    }
+}
+
+/// Reads two records and makes their models one: the head that both have, and in each thread the rules of either, each once, in order and
+/// held as it was. Writes its record to the front of the store; the bytes beyond keep their value. Answers how many bytes were written. If
+/// either model is Found, so is this one, in no more steps; if either is Long, this one is not Clear.
+pub fn merge(first: &[u8], second: &[u8], store: &mut [u8]) -> Result<usize, Refusal> {
+    let number = unsafe {
+        turncheck_merge(first.as_ptr(), first.len(), second.as_ptr(), second.len(), store.as_mut_ptr(), store.len())
+    };
     match parts(number) {
         [WRITTEN, length, 0, 0] => Ok(length.into()),
         _ => Err(refusal(number)),

@@ -5,6 +5,9 @@ use Prim.Native.Nat.{ℕ}
 use lib.ListN.{length}
 use Rattle.model.specs.declared.Model.{Model}
 use Rattle.model.specs.Results as result
+use Rattle.merge.specs.declared.Merged.{Merged}
+use Rattle.merge.specs.declared.Merged.the-variants.{Done, Refused}
+use Rattle.merge.specs.Answer.{mergingOf, Makes}
 use Rattle.record.specs.Reader.{Read, readOf}
 use Rattle.record.specs.Written.{writtenOf, storeOf}
 use Rattle.reach.specs.Answer.{outcomeOf, Leaves}
@@ -30,6 +33,26 @@ abbrev pub WriteCall : List ℕ → ℕ → List ℕ → List ℕ → Type 0
 WriteCall bytes r old new =
     Either (λ n. Says r (refused n) × (new ≡ old))
     (λ m. Says r (writeReply (writtenOf m (length old))) × (new ≡ storeOf m old)) (readOf bytes)
+
+-- Writing the model that two were made, by what merging answers: the writer's answer, with the store as the writer leaves it.
+abbrev pub WrittenBy : Merged → Model → ℕ → List ℕ → List ℕ → Type 0
+WrittenBy Done whole r old new = Says r (writeReply (writtenOf whole (length old))) × (new ≡ storeOf whole old)
+WrittenBy (Refused n) whole r old new = Says r (refused n) × (new ≡ old)
+
+-- Merging two models and writing what they are made: it is made of both.
+abbrev pub MergedCall : Model → Model → ℕ → List ℕ → List ℕ → Type 0
+MergedCall m n r old new =
+    WrittenBy (mergingOf m n .answer) (mergingOf m n .model) r old new × Makes m n (mergingOf m n)
+
+-- The same with the model that was read as the second ..
+abbrev pub SecondCall : Model → List ℕ → ℕ → List ℕ → List ℕ → Type 0
+SecondCall m second r old new =
+    Either (λ n. Says r (refused n) × (new ≡ old)) (λ n. MergedCall m n r old new) (readOf second)
+
+-- .. and with another that was read before it as the first.
+abbrev pub MergeCall : List ℕ → List ℕ → ℕ → List ℕ → List ℕ → Type 0
+MergeCall first second r old new =
+    Either (λ n. Says r (refused n) × (new ≡ old)) (λ m. SecondCall m second r old new) (readOf first)
 
 -- The line table of the model that was read: what that call answers, with the store as it leaves it.
 abbrev pub LinesCall : List ℕ → ℕ → List ℕ → List ℕ → Type 0

@@ -1,9 +1,12 @@
 // The calls for C and Rust: bytes in, a number out, and a record in place of a model. The numbers are defined in specs/.
 ghost use mathlib.Core.Path.{_≡_};
 ghost use Prim.Native.Nat.{_<_};
-ghost use Rattle.ffi.specs.Calls.{ReadCall, WriteCall, LinesCall, JudgeCall, ReplayCall, PageCall, FirstCall};
+ghost use Rattle.ffi.specs.Calls.{ReadCall, WriteCall, MergeCall, SecondCall, MergedCall, LinesCall, JudgeCall, ReplayCall, PageCall, FirstCall};
 ghost use Rattle.ffi.specs.Replies.{packed};
+ghost use Rattle.model.specs.Valid.{Valid};
 use judge::Judgement;
+use merge::Merged;
+use model::Model;
 use page::Paged;
 use reach::Outcome;
 use record::Answer;
@@ -58,6 +61,48 @@ pub extern "C" fn turncheck_write(bytes: &[u8], store: &mut [u8]) -> u64
             Written::Refused(n) => n as u64,
         },
         Answer::Refused(n) => n as u64,
+    }
+}
+
+// Reads two records and writes the record of their models made one to the front of the store: written, with its length.
+#[no_mangle]
+pub extern "C" fn turncheck_merge(first: &[u8], second: &[u8], store: &mut [u8]) -> u64
+    ensures { λ r. ⌜ MergeCall (now (first .entry)) (now (second .entry)) r (now (store .entry)) (now (store .exit)) ⌝ }
+{
+    let reading = record::read(first);
+    let answer = reading.answer;
+    match answer {
+        Answer::Accepted => merge_with(reading.model, second, store),
+        Answer::Refused(n) => n as u64,
+    }
+}
+
+// Reads a record and does the same with its model as the second.
+fn merge_with(m: Model, second: &[u8], store: &mut [u8]) -> u64
+    requires { ⌜ Valid m ⌝ }
+    ensures { λ r. ⌜ SecondCall m (now (second .entry)) r (now (store .entry)) (now (store .exit)) ⌝ }
+{
+    let reading = record::read(second);
+    let answer = reading.answer;
+    match answer {
+        Answer::Accepted => write_merged(m, reading.model, store),
+        Answer::Refused(n) => n as u64,
+    }
+}
+
+// Writes the record of two models made one.
+fn write_merged(m: Model, n: Model, store: &mut [u8]) -> u64
+    requires { ⌜ Valid m × Valid n ⌝ }
+    ensures { λ r. ⌜ MergedCall m n r (now (store .entry)) (now (store .exit)) ⌝ }
+{
+    let merging = merge::merge(m, n);
+    let answer = merging.answer;
+    match answer {
+        Merged::Done => match record::write(merging.model, store) {
+            Written::Length(n) => with_field(WRITTEN, n as u64),
+            Written::Refused(n) => n as u64,
+        },
+        Merged::Refused(n) => n as u64,
     }
 }
 

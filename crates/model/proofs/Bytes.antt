@@ -36,7 +36,7 @@ parity (suc zero) (suc (suc y)) h k e = absurd (omega arith)
 parity (suc (suc x)) y h k e = absurd (omega arith)
 
 -- A bit of half a number is the next bit of the number.
-halved : (j n : ℕ) → bit j (n / 2) ≡ bit (suc j) n
+pub halved : (j n : ℕ) → bit j (n / 2) ≡ bit (suc j) n
 halved j n = ap (λ x. eqb (x % 2) 1) (div-div-eq-div-mul n 2 (2 ^ j) ∙ ap (λ x. n / x) (sym (pow-succ' 2 j)))
 
 -- Numbers of k bits are the same if their bits are.

@@ -1,7 +1,7 @@
 -- Keys compare as what rules are ordered by: a digit decides unless it is the same, and then those after it do, since together they come to
--- less than one of it.
+-- less than one of it. So rules with one key are the same.
 use mathlib.Core.Bool.{Bool, _&&_, _||_}
-use mathlib.Core.Path.{_≡_, refl}
+use mathlib.Core.Path.{_≡_, refl, ap, _∙_}
 use Prim.Native.Nat.{ℕ, _+_, _*_, _≤_, _<_}
 use native.Mathlib.Decide.{decLt}
 use native.Mathlib.Omega.{arith}
@@ -10,6 +10,7 @@ use borrow.Author.Tests.{le-ltb, lt-ltb, eq-eqb, ne-eqb}
 use Rattle.model.specs.declared.Right.{Right}
 use Rattle.model.specs.declared.Right.the-variants.{Remove, Swap, Push}
 use Rattle.model.specs.declared.Rule.{Rule}
+use Rattle.model.specs.declared.Symbol.{Symbol}
 use Rattle.model.specs.Fits.{RightFits, RuleFits}
 use Rattle.model.specs.Order.{rightKey, keyOf, newOf, orderedBy, precedes}
 
@@ -64,3 +65,40 @@ key-order g x y h f k =
     digit (x .after .0) (y .after .0) (keyOf x) (keyOf y) (λ l. omega arith) (λ l. omega arith) λ e₃.
     rw (← right-order (x .right) (y .right) (f .symbols) (k .symbols))
     (alike (keyOf x) (keyOf y) (rightKey (x .right)) (rightKey (y .right)) (λ l. omega arith) (λ l. omega arith))
+
+-- A symbol and a rule by their numbers, of which they are made.
+abbrev symbolOf : ℕ → Symbol
+symbolOf n = record { 0 = n }
+
+abbrev ruleOf : ℕ → ℕ → ℕ → Right → Rule
+ruleOf p s q r = record { before = record { 0 = p }; symbol = symbolOf s; after = record { 0 = q }; right = r }
+
+-- Right sides in range with one key are the same ..
+one-right : (x y : Right) → RightFits x → RightFits y → rightKey x ≡ rightKey y → x ≡ y
+unfolding rightKey
+one-right Remove Remove f h e = refl
+one-right Remove (Swap c) f h e = absurd (omega arith)
+one-right Remove (Push c d) f h e = absurd (omega arith)
+one-right (Swap a) Remove f h e = absurd (omega arith)
+one-right (Swap a) (Swap c) f h e = ap (λ n. Swap (symbolOf n)) (omega arith)
+one-right (Swap a) (Push c d) f h e = absurd (omega arith)
+one-right (Push a b) Remove f h e = absurd (omega arith)
+one-right (Push a b) (Swap c) f h e = absurd (omega (arith, f .0, f .1, h))
+one-right (Push a b) (Push c d) f h e =
+    let first : a .0 ≡ c .0 = omega (arith, f .1, h .1) in
+    let second : b .0 ≡ d .0 = omega arith in
+    ap (λ n. Push (symbolOf n) b) first ∙ ap (λ n. Push c (symbolOf n)) second
+
+-- .. and so are rules.
+pub one-key : (g : ℕ) (x y : Rule) → g ≤ 16 → RuleFits g x → RuleFits g y → keyOf x ≡ keyOf y → x ≡ y
+unfolding keyOf
+one-key g x y h f k e =
+    let lowX = right-small (x .right) (f .symbols) in
+    let lowY = right-small (y .right) (k .symbols) in
+    let before : x .before .0 ≡ y .before .0 = omega arith in
+    let symbol : x .symbol .0 ≡ y .symbol .0 = omega arith in
+    let after : x .after .0 ≡ y .after .0 = omega arith in
+    let right = one-right (x .right) (y .right) (f .symbols) (k .symbols) (omega arith) in
+    let same : ruleOf (x .before .0) (x .symbol .0) (x .after .0) (x .right) ≡ ruleOf (y .before .0) (y .symbol .0) (y .after .0) (y .right) =
+    rw (before, symbol, after, right) in
+    same

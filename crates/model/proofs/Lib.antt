@@ -7,6 +7,7 @@ pub mod Keys
 pub mod Marks
 pub mod Order
 pub mod Owners
+pub mod Padded
 pub mod Positions
 pub mod Ranges
 pub mod Results

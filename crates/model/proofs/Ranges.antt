@@ -24,17 +24,17 @@ use Rattle.model.proofs.Tests.{order, each-from, tests}
 use Rattle.model.specs.Valid.{rangeFault, topFault, headFault, symbolFault, rightFault, ruleFault, rulesFault, threadFault, freeFrom, markFault, marksFault, faultOf, Valid}
 
 -- No fault of checks in order is no fault of the first and none of the others.
-none : (n : ℕ) (ns : List ℕ) → (firstOf (n ∷ ns) ≡ 0) ↔ ((n ≡ 0) × (firstOf ns ≡ 0))
+pub none : (n : ℕ) (ns : List ℕ) → (firstOf (n ∷ ns) ≡ 0) ↔ ((n ≡ 0) × (firstOf ns ≡ 0))
 unfolding firstOf
 none zero ns = (λ h. (refl, h), λ h. h .1)
 none (suc n) ns = (λ h. absurd (omega arith), λ h. h .0)
 
 -- A check finds no fault exactly if its test passes.
-passes : (n : ℕ) (test : Bool) → ltb 0 n ≡ true → (refuse n test ≡ 0) ↔ T test
+pub passes : (n : ℕ) (test : Bool) → ltb 0 n ≡ true → (refuse n test ≡ 0) ↔ T test
 passes n true e = (λ h. tt, λ h. refl)
 passes n false e = (λ h. omega (arith, ltb-true), λ h. absurd h)
 
-ruleset checks = (none, passes, tests)
+pub ruleset checks = (none, passes, tests)
 
 top : (x : Top) → (topFault x ≡ 0) ↔ TopFits x
 unfolding topFault

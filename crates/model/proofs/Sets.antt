@@ -20,8 +20,8 @@ use Rattle.model.specs.Valid.{SameThread, Same, Valid, Places}
 use Rattle.model.proofs.Bytes.{same-bytes}
 use Rattle.model.proofs.Ranges.{valid-fits}
 
--- What rises from each place to the next rises.
-rising : (f : ℕ → ℕ) (n : ℕ) → ((r : ℕ) → suc r < n → f r < f (suc r)) → (r s : ℕ) → r < s → s < n → f r < f s
+-- What rises from each place to the next rises ..
+pub rising : (f : ℕ → ℕ) (n : ℕ) → ((r : ℕ) → suc r < n → f r < f (suc r)) → (r s : ℕ) → r < s → s < n → f r < f s
 rising f n h r zero k l = absurd (omega arith)
 rising f n h r (suc s) k l =
     let up = h s l in
@@ -30,21 +30,23 @@ rising f n h r (suc s) k l =
       | no j ↦ let e : r ≡ s = omega arith in rw e up
     ]
 
+-- .. and is the same at one place only.
+pub one-place : (f : ℕ → ℕ) (n : ℕ) → ((r s : ℕ) → r < s → s < n → f r < f s) → (r s : ℕ) → r < n → s < n → f r ≡ f s → r ≡ s
+one-place f n up r s h k e = elim (decLt r s) [
+  | yes l ↦ let less = up r s l k in absurd (omega arith)
+  | no l ↦ elim (decLt s r) [ yes j ↦ let less = up s r j h in absurd (omega arith) | no j ↦ omega arith ]
+]
+
 -- The keys of a thread rise.
-abbrev Rising : Thread → Type 0
+abbrev pub Rising : Thread → Type 0
 Rising t = (r s : ℕ) → r < s → s < t .count → keyOf (ruleAt t r) < keyOf (ruleAt t s)
 
-thread-rises : {g : ℕ} (t : Thread) → ThreadFits g t → Rising t
+pub thread-rises : {g : ℕ} (t : Thread) → ThreadFits g t → Rising t
 thread-rises t f = rising (λ r. keyOf (ruleAt t r)) (t .count) (f .order)
 
 -- So a rule has one number.
-one-number : (t : Thread) → Rising t → (r s : ℕ) → r < t .count → s < t .count → ruleAt t r ≡ ruleAt t s → r ≡ s
-one-number t up r s h k e =
-    let same = ap keyOf e in
-    elim (decLt r s) [
-      | yes l ↦ let less = up r s l k in absurd (omega arith)
-      | no l ↦ elim (decLt s r) [ yes j ↦ let less = up s r j h in absurd (omega arith) | no j ↦ omega arith ]
-    ]
+pub one-number : (t : Thread) → Rising t → (r s : ℕ) → r < t .count → s < t .count → ruleAt t r ≡ ruleAt t s → r ≡ s
+one-number t up r s h k e = one-place (λ i. keyOf (ruleAt t i)) (t .count) up r s h k (ap keyOf e)
 
 module _ (t u : Thread) (upT : Rising t) (upU : Rising u) (set : (x : Rule) → RuleOf t x ↔ RuleOf u x) where
   -- What is to be had at a place of the one: the other has the same rule there.

@@ -11,3 +11,4 @@ pub mod UpToOrder
 pub mod Valid
 pub mod Verdict
 pub mod Walk
+pub mod Zero

@@ -5,6 +5,7 @@ ghost use Rattle.model.specs.Bits.{bitAt, allZero};
 ghost use Rattle.model.specs.Order.{keyOf};
 ghost use Rattle.model.specs.Valid.{faultOf, markFault};
 ghost use Rattle.model.specs.Lines.{tableBits};
+ghost use Rattle.model.specs.Zero.{zeroModel};
 
 mod faults;
 
@@ -161,6 +162,27 @@ pub fn mark_fault(marks: [u8; 8], count: usize) -> u8
         r += 1;
     }
     0
+}
+
+// A model whose places are all zero.
+pub fn zero_model() -> Model
+    ensures { λ r. ⌜ r ≡ zeroModel ⌝ }
+{
+    let t = Thread {
+        first: Symbol(0),
+        top: Top::Any,
+        held: [0u8; 8],
+        count: 0,
+        rules: [ZERO_RULE; 64],
+    };
+    Model {
+        g: 0,
+        k: 0,
+        start: Shared(0),
+        target: Shared(0),
+        a: t,
+        b: t,
+    }
 }
 
 // How many lines a model with these G and K has, or 0 where they are out of range.

@@ -8,12 +8,13 @@ use lib.ListN.{length, take, drop, length-drop}
 use lib.Seq.{take-all}
 use Rattle.model.specs.declared.Model.{Model}
 use Rattle.model.specs.Results.{refused, accepted}
+use Rattle.model.specs.Zero.{zeroModel}
 use Rattle.record.specs.declared.Front.{Front}
 use Rattle.record.specs.declared.Taken.{Taken}
 use Rattle.record.specs.declared.Taken.the-variants.{Refused}
 use Rattle.record.specs.declared.RuleList.{RuleList}
 use Rattle.record.specs.Reader.{parseFront, parseRules}
-use Rattle.record.specs.Held.{Reads, listed, takenWith, listOf, frontOf, over, placeOf, readingOf, zeroModel}
+use Rattle.record.specs.Held.{Reads, listed, takenWith, listOf, frontOf, over, placeOf, readingOf}
 use Rattle.record.proofs.Parts.{refuses}
 
 -- A refusal comes with the zero model.

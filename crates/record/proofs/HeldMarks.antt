@@ -15,7 +15,8 @@ use Rattle.model.specs.Valid.{markFault, marksFault}
 use Rattle.model.proofs.Marks.{all-free}
 use Rattle.model.proofs.Results.{checked}
 use Rattle.model.proofs.Tests.{both, order, equal, failed}
-use Rattle.record.specs.Reader.{noMarks, parseMarks}
+use Rattle.model.specs.Zero.{noMarks}
+use Rattle.record.specs.Reader.{parseMarks}
 use Rattle.writer.specs.Writer.{heldBytes}
 use Rattle.record.proofs.OneField.{carried}
 

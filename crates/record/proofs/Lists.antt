@@ -4,48 +4,25 @@ use mathlib.Core.Path.{_≡_, refl, sym, _∙_}
 use Prim.Native.Nat.{ℕ, suc, _+_, _-_, _≤_, _<_}
 use native.Mathlib.Numerals.{add-one}
 use native.Mathlib.Omega.{arith}
-use lib.ListN.{length, take, drop, set, replicate, getD, length-set, take-append-drop}
-use lib.Seq.{length-take-le, take-suc-set, drop-set-lt, drop-cons}
+use lib.ListN.{length, take, set, replicate}
+use lib.Seq.{take-suc-set}
 use borrow.Author.Tests.{le-leb, lt-leb}
 use Rattle.model.specs.declared.Rule.{Rule}
 use Rattle.model.specs.Order.{keyOf}
 use Rattle.model.specs.Results.{refused, accepted}
 use Rattle.model.specs.Rules.{zeroRule}
+use Rattle.model.specs.Zero.{Padded}
+use Rattle.model.proofs.Padded.{padded-none, padded-more}
 use Rattle.record.specs.declared.RuleList.{RuleList}
 use Rattle.record.specs.declared.Taken.the-variants.{Refused}
 use Rattle.record.specs.Reader.{Read, andRead, parseRule, parseRuleList}
-use Rattle.record.specs.Held.{Reads, listOf, Padded}
+use Rattle.record.specs.Held.{Reads, listOf}
 use Rattle.record.proofs.Parts.{refuses}
-
--- As many rules are listed as are counted ..
-pub counts : {count : ℕ} {rs : List Rule} → Padded count rs → length (take count rs) ≡ count
-counts {count} {rs} p = length-take-le count rs (omega arith)
-
--- .. and the places after them are zero.
-pub fills : {count : ℕ} {rs : List Rule} → Padded count rs → take count rs ++ replicate (64 - count) zeroRule ≡ rs
-fills {count} {rs} p = rw (← p .zeros) (take-append-drop count rs)
-
--- All places are zero at first ..
-pub padded-none : Padded 0 (replicate 64 zeroRule)
-padded-none = record { low = omega arith; size = refl; zeros = refl }
-
--- .. and a rule is put into the first zero place.
-padded-more : {i : ℕ} {rs : List Rule} (r : Rule) → Padded i rs → i < 64 → Padded (suc i) (set rs i r)
-padded-more {i} {rs} r p h =
-    let inside : i < length rs = omega arith in
-    let cut : 64 - i ≡ suc (64 - suc i) = omega arith in
-    let split : getD rs i zeroRule ∷ drop (suc i) rs ≡ zeroRule ∷ replicate (64 - suc i) zeroRule =
-    sym (drop-cons rs i zeroRule inside) ∙ rw cut at (p .zeros) in
-    record {
-      low = h;
-      size = rw length-set (p .size);
-      zeros = drop-set-lt (suc i) rs i r (omega arith) ∙ (cc);
-    }
 
 -- A refusal comes with the rules read so far.
 pub refused-list : {s : List ℕ} {l : RuleList} {m count : ℕ} {rs : List Rule} {wanted : Read (List Rule)}
-    → l ≡ record { answer = Refused m; count = count; rules = rs } → refused m ≡ wanted → Padded count rs
-    → Reads s (listOf l) wanted × Padded (l .count) (l .rules)
+    → l ≡ record { answer = Refused m; count = count; rules = rs } → refused m ≡ wanted → Padded zeroRule count rs
+    → Reads s (listOf l) wanted × Padded zeroRule (l .count) (l .rules)
 refused-list e h p = rw e (refuses h, p)
 
 -- Rules before a list that is read.
@@ -66,7 +43,7 @@ prepend-cons p r (accepted (rs, rest)) = rw append-assoc
 pub record Progress (wanted : Read (List Rule)) (g n i least : ℕ) (rs : List Rule) (left : List ℕ) : Type 0 where
   pub low : i ≤ n
   pub fits : n ≤ 64
-  pub padded : Padded i rs
+  pub padded : Padded zeroRule i rs
   pub same : wanted ≡ prepend (take i rs) (parseRuleList g least (n - i) left)
 
 -- No rule is read yet.

@@ -27,10 +27,11 @@ use Rattle.model.specs.Valid.{Valid, marksFault}
 use Rattle.model.proofs.Ranges.{valid-fits}
 use Rattle.model.proofs.Results.{apart, checked}
 use Rattle.model.proofs.Tests.{equal}
+use Rattle.model.specs.Zero.{noMarks}
 use Rattle.record.specs.Older.{noSecond, olderHeadRest, olderRuleList, olderRules, olderFront, targetByte, NoSecond}
 use Rattle.record.specs.Reader.{Read, andRead, parseByte, parseRanged, parseField, parseRule, parseRuleList, parseRules}
 use Rattle.record.specs.Reader.{Head, parseFirsts, headBy, parseHead, threadFrom}
-use Rattle.record.specs.Reader.{announces, stateOf, parseTarget, parseTop, noMarks, parseMarks, parseSecond}
+use Rattle.record.specs.Reader.{announces, stateOf, parseTarget, parseTop, parseMarks, parseSecond}
 use Rattle.record.specs.Reader.{modelOf, modelBy, marksListed, parseFront, readOf}
 use Rattle.writer.specs.Writer.{fieldOf, weightOf, heldBytes, Extra, Second, secondOf, secondMap, secondFields, targetBytes}
 use Rattle.record.proofs.Heads.{target-place}

@@ -18,8 +18,9 @@ use Rattle.model.specs.Valid.{Valid, marksFault, SameThread, Same, Places}
 use Rattle.model.proofs.Alike.{same-valid}
 use Rattle.model.proofs.Ranges.{marks-free, valid-fits}
 use Rattle.model.proofs.Results.{apart, undue}
+use Rattle.model.specs.Zero.{Unused}
 use Rattle.record.specs.declared.Reading.{Reading}
-use Rattle.record.specs.Kept.{Unused, Kept, Keeps}
+use Rattle.record.specs.Kept.{Kept, Keeps}
 use Rattle.record.specs.Held.{readingOf}
 use Rattle.record.specs.Reader.{Read, announces, parseRules, Head, parseHead, threadFrom, modelOf, parseFront, ended, readOf}
 use Rattle.record.specs.Older.{targetByte}

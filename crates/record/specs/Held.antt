@@ -2,16 +2,14 @@
 -- definitions hold the bytes left.
 use mathlib.Core.List.{List, [], _∷_}
 use mathlib.Core.Path.{_≡_}
-use Prim.Native.Nat.{ℕ, _-_, _≤_}
-use lib.ListN.{length, take, drop, replicate}
+use Prim.Native.Nat.{ℕ, _≤_}
+use lib.ListN.{length, take, drop}
 use Rattle.model.specs.declared.Model.{Model}
 use Rattle.model.specs.declared.Right.{Right}
 use Rattle.model.specs.declared.Rule.{Rule}
-use Rattle.model.specs.declared.Thread.{Thread}
 use Rattle.model.specs.declared.Top.{Top}
-use Rattle.model.specs.declared.Top.the-variants.{Any}
 use Rattle.model.specs.Results.{Result, refused, accepted, andThen}
-use Rattle.model.specs.Rules.{zeroRule}
+use Rattle.model.specs.Zero.{zeroModel}
 use Rattle.record.specs.declared.Answer.the-variants.{Accepted}
 use Rattle.record.specs.declared.Answer.the-variants as answer
 use Rattle.record.specs.declared.Fields.{Fields}
@@ -37,7 +35,7 @@ use Rattle.record.specs.declared.Taken.the-variants as taken
 use Rattle.record.specs.declared.ThreadFields.{ThreadFields}
 use Rattle.record.specs.declared.TopPart.{TopPart}
 use Rattle.record.specs.declared.TopPart.the-variants as topPart
-use Rattle.record.specs.Reader.{Read, noMarks, Head}
+use Rattle.record.specs.Reader.{Read, Head}
 use Rattle.writer.specs.Writer.{Extra, Second}
 
 -- A field: its byte.
@@ -131,32 +129,6 @@ placeOf (accepted x) = x .1
 pub record Reads {A : Type 0} (s : List ℕ) (found : Result (A × ℕ)) (wanted : Read A) : Type 0 where
   pub same : over s found ≡ wanted
   pub within : placeOf found ≤ length s
-
--- Of 64 rule places those from n on are zero.
-abbrev pub ZeroFrom : ℕ → List Rule → Type 0
-ZeroFrom n rs = drop n rs ≡ replicate (64 - n) zeroRule
-
--- Of 64 places the first `count` are used, and the others are zero.
-pub record Padded (count : ℕ) (rs : List Rule) : Type 0 where
-  pub low : count ≤ 64
-  pub size : length rs ≡ 64
-  pub zeros : ZeroFrom count rs
-
--- A thread whose places are all zero.
-abbrev pub zeroThread : Thread
-zeroThread = record { first = record { 0 = 0 }; top = Any; held = noMarks; count = 0; rules = replicate 64 zeroRule }
-
--- A model whose places are all zero.
-abbrev pub zeroModel : Model
-zeroModel =
-    record {
-      g = 0;
-      k = 0;
-      start = record { 0 = 0 };
-      target = record { 0 = 0 };
-      a = zeroThread;
-      b = zeroThread;
-    }
 
 -- What is answered: the model that was read, or the refusal beside the zero model.
 unfoldable pub readingOf : Read Model → Reading

@@ -3,17 +3,12 @@ use mathlib.Core.List.{List}
 use mathlib.Core.Path.{_≡_}
 use Prim.Native.Nat.{ℕ}
 use Rattle.model.specs.declared.Model.{Model}
-use Rattle.model.specs.declared.Thread.{Thread}
 use Rattle.model.specs.Valid.{Valid}
+use Rattle.model.specs.Zero.{Unused}
 use Rattle.record.specs.declared.Answer.{Answer}
 use Rattle.record.specs.declared.Answer.the-variants.{Accepted, Refused}
 use Rattle.record.specs.declared.Reading.{Reading}
-use Rattle.record.specs.Held.{ZeroFrom}
 use Rattle.writer.specs.Writer.{recordOf}
-
--- The unused rule places of a thread are zero.
-abbrev pub Unused : Thread → Type 0
-Unused t = ZeroFrom (t .count) (t .rules)
 
 -- A model that was read from a whole record: valid, its unused places zero, and its record is those bytes.
 pub record Kept (bytes : List ℕ) (m : Model) : Type 0 where

@@ -11,7 +11,8 @@ use Rattle.model.specs.declared.Top.the-variants.{Any}
 use Rattle.model.specs.Bits.{bit, oneIf}
 use Rattle.model.specs.Results.{accepted}
 use Rattle.writer.specs.Writer.{Second, secondOf}
-use Rattle.record.specs.Reader.{Read, andRead, parseRanged, parseField, parseRule, noMarks, Head, parseFirsts, headBy, modelBy}
+use Rattle.model.specs.Zero.{noMarks}
+use Rattle.record.specs.Reader.{Read, andRead, parseRanged, parseField, parseRule, Head, parseFirsts, headBy, modelBy}
 
 -- What no second map says: any top, and no mark.
 abbrev pub noSecond : Second

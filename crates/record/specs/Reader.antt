@@ -1,10 +1,10 @@
 -- The model record as it is read: from left to right, and the first fault gives the refusal.
 use mathlib.Core.Bool.{Bool, true, false, not, _&&_, _||_, cond}
-use mathlib.Core.List.{List, [], _∷_, _++_}
+use mathlib.Core.List.{List, [], _∷_}
 use mathlib.Core.Path.{_≡_}
 use Prim.Native.Nat.{ℕ, zero, suc, _-_, _/_, _%_, _≤_, _<_}
 use lib.Dec.{leb, ltb, eqb}
-use lib.ListN.{length, take, drop, replicate}
+use lib.ListN.{length, take, drop}
 use Rattle.model.specs.declared.Model.{Model}
 use Rattle.model.specs.declared.Right.{Right}
 use Rattle.model.specs.declared.Right.the-variants.{Remove, Swap, Push}
@@ -17,6 +17,7 @@ use Rattle.model.specs.Order.{keyOf}
 use Rattle.model.specs.Results.{Result, refused, accepted, andThen, need, unless}
 use Rattle.model.specs.Rules.{zeroRule}
 use Rattle.model.specs.Valid.{marksFault}
+use Rattle.model.specs.Zero.{noMarks, inPlaces}
 use Rattle.writer.specs.Writer.{Extra, Second}
 
 -- Reading at the front of a list of bytes comes to a value and the bytes left.
@@ -111,10 +112,6 @@ unfoldable pub parseTop : Bool → List ℕ → Read Top
 parseTop false bs = accepted (Any, bs)
 parseTop true bs = andRead (parseRanged 3 0 16 bs) (λ x rest. accepted (Named (record { 0 = x }), rest))
 
--- What absent marks say: eight zero bytes, so no rule is held.
-abbrev pub noMarks : List ℕ
-noMarks = replicate 8 0
-
 -- The marks of a thread's held rules: where their bit stands eight bytes (1), not all of them zero (5), else none.
 unfoldable pub parseMarks : Bool → List ℕ → Read (List ℕ)
 parseMarks false bs = accepted (noMarks, bs)
@@ -178,7 +175,7 @@ threadFrom first x rs =
       top = x .top;
       held = x .held;
       count = length rs;
-      rules = rs ++ replicate (64 - length rs) zeroRule;
+      rules = inPlaces zeroRule rs;
     }
 
 -- The model of a head and two lists of rules.

@@ -14,7 +14,6 @@ mod field;
 pub mod reader;
 mod rules;
 mod targets;
-mod zero;
 
 // What a whole record says, or the refusal's number.
 pub enum Answer {
@@ -47,7 +46,7 @@ pub fn read(bytes: &[u8]) -> Reading
             if n < bytes.len() {
                 return Reading {
                     answer: Answer::Refused(6),
-                    model: zero::zero_model(),
+                    model: model::zero_model(),
                 };
             }
             Reading {

@@ -14,7 +14,6 @@ use crate::targets::array_of;
 use crate::targets::read_second;
 use crate::targets::read_target;
 use crate::targets::state_of;
-use crate::zero::zero_model;
 use model::Model;
 use model::Shared;
 use model::Symbol;
@@ -23,7 +22,9 @@ ghost use mathlib.Core.Path.{_≡_};
 ghost use Prim.Native.Nat.{_≤_};
 ghost use lib.ListN.{length, drop};
 ghost use Rattle.model.specs.Valid.{marksFault};
-ghost use Rattle.record.specs.Held.{Reads, extraOf, fieldsOf, headPartOf, frontOf, Padded, listed, readingOf, zeroModel};
+ghost use Rattle.model.specs.Rules.{zeroRule};
+ghost use Rattle.model.specs.Zero.{Padded, zeroModel};
+ghost use Rattle.record.specs.Held.{Reads, extraOf, fieldsOf, headPartOf, frontOf, listed, readingOf};
 ghost use Rattle.record.specs.Reader.{parseFront, parseHead, parseHeadRest, threadFrom, modelOf};
 
 // A record at the front of a slice, and how many bytes it took.
@@ -62,7 +63,7 @@ pub fn front(bytes: &[u8]) -> Front
 
 // The model of a head and the rules of both threads.
 fn model_of(h: Fields, a: RuleList, b: RuleList) -> Model
-    requires { ⌜ Padded (a .count) (a .rules) × Padded (b .count) (b .rules) ⌝ }
+    requires { ⌜ Padded zeroRule (a .count) (a .rules) × Padded zeroRule (b .count) (b .rules) ⌝ }
     ensures { λ r. ⌜ r ≡ modelOf (fieldsOf h) (listed a) (listed b) ⌝ }
 {
     let second = h.second;
@@ -99,13 +100,13 @@ fn refusal(n: u8) -> Front
 {
     Front {
         answer: Taken::Refused(n),
-        model: zero_model(),
+        model: model::zero_model(),
     }
 }
 
 // A thread with the rules that were read.
 fn thread(first: u8, x: ThreadFields, l: RuleList) -> Thread
-    requires { ⌜ Padded (l .count) (l .rules) ⌝ }
+    requires { ⌜ Padded zeroRule (l .count) (l .rules) ⌝ }
     ensures { λ r. ⌜ r ≡ threadFrom first (extraOf x) (listed l) ⌝ }
 {
     let top = x.top;

@@ -17,14 +17,16 @@ use model::ZERO_RULE;
 ghost use mathlib.Core.Path.{_≡_};
 ghost use Prim.Native.Nat.{_≤_};
 ghost use lib.ListN.{length, drop};
-ghost use Rattle.record.specs.Held.{Reads, rightPartOf, rulePartOf, listOf, Padded};
+ghost use Rattle.model.specs.Rules.{zeroRule};
+ghost use Rattle.model.specs.Zero.{Padded};
+ghost use Rattle.record.specs.Held.{Reads, rightPartOf, rulePartOf, listOf};
 ghost use Rattle.record.specs.Reader.{parseRight, parseRule, ruleMap, parseRules};
 
 // The rules of a thread, from the place of their count; no byte is taken where they are absent. The least key that the next rule may
 // have is one above the last.
 pub fn read_rules(s: &[u8], present: bool, g: u8) -> RuleList
     ensures read { λ r. ⌜ Reads (now (s .entry)) (listOf r) (parseRules present g (now (s .entry))) ⌝ }
-    ensures padded { λ r. ⌜ Padded (r .count) (r .rules) ⌝ }
+    ensures padded { λ r. ⌜ Padded zeroRule (r .count) (r .rules) ⌝ }
 {
     let mut rules = [ZERO_RULE; 64];
     let mut i = 0;

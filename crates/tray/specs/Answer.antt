@@ -6,7 +6,7 @@ use lib.ListN.{length, take, drop}
 use denote.Ref.{RefT, ptr, now}
 use Rattle.model.specs.declared.Model.{Model}
 use Rattle.model.specs.Results.{accepted}
-use Rattle.record.specs.Held.{zeroModel}
+use Rattle.model.specs.Zero.{zeroModel}
 use Rattle.record.specs.Kept.{Kept}
 use Rattle.record.specs.Reader.{readOf}
 use Rattle.writer.specs.Writer.{recordOf}

@@ -1,6 +1,6 @@
 -- `thread` meets its contract: the places that are not used are zero, as in a thread with these rules alone.
 use borrow.Author.Needs.{needs}
-use Rattle.record.proofs.Lists.{counts, fills}
+use Rattle.model.proofs.Padded.{counts, fills}
 use Rattle.record.proofs.reader.thread.Statement.{statement}
 use Rattle.record.proofs.reader.thread.Tie as tie
 

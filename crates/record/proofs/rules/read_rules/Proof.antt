@@ -2,10 +2,11 @@
 use Prim.Native.Nat.{_≤_, _-_, zero-le}
 use native.Mathlib.Omega.{arith}
 use lib.ListN.{length, drop}
+use Rattle.model.proofs.Padded.{padded-none}
 use Rattle.record.specs.Reader.{parseRules}
 use Rattle.record.specs.Held.{partOf, rulePartOf}
 use Rattle.record.proofs.Parts.{got, ends}
-use Rattle.record.proofs.Lists.{padded-none, refused-list, Progress, starts, steps, breaks, falls, stops}
+use Rattle.record.proofs.Lists.{refused-list, Progress, starts, steps, breaks, falls, stops}
 use Rattle.record.proofs.OneField.{field-forth}
 use borrow.Author.Needs.{needs}
 use Rattle.record.proofs.rules.read_rules.Statement.{statement}

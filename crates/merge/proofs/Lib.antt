@@ -1,0 +1,16 @@
+pub mod Along
+pub mod Answers
+pub mod Ascending
+pub mod Carried
+pub mod Clashes
+pub mod Filling
+pub mod Flags
+pub mod Heads
+pub mod Inserted
+pub mod Made
+pub mod Mapped
+pub mod Members
+pub mod Only
+pub mod Packing
+pub mod Placed
+pub mod Shortest

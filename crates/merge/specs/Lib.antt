@@ -1,0 +1,4 @@
+pub mod Answer
+pub mod Joining
+pub mod Parts
+pub mod Union
