@@ -1,12 +1,14 @@
 -- A byte put together from its highest bit down: each bit doubles what there is.
+use mathlib.Core.Bool.{true, false}
 use mathlib.Core.Logic.{_↔_}
-use Prim.Native.Nat.{ℕ, zero, suc, _+_, _-_, _*_, _/_, _%_, _^_, _<_, _≤_}
+use Prim.Native.Nat.{ℕ, zero, suc, _+_, _-_, _*_, _^_, _<_, _≤_}
 use mathlib.Core.Path.{_≡_}
-use native.Mathlib.Nat.{pow-zero, pow-succ', pow-le-pow-right, div-one, div-div-eq-div-mul}
+use native.Mathlib.Nat.{pow-zero, pow-succ', pow-le-pow-right}
 use native.Mathlib.Numerals.{add-one}
 use native.Mathlib.Omega.{arith}
 use lib.Dec.{T}
 use Rattle.model.specs.Bits.{bit}
+use Rattle.model.proofs.Bytes.{lowest-bit, higher-bit}
 use Rattle.draw.specs.Marks.{BitOf, set, unset, Packs}
 
 -- A bit is 0 or 1.
@@ -14,18 +16,10 @@ pub bit-small : {Mark : Type 0} {r : ℕ} → BitOf Mark r → r ≤ 1
 bit-small (set h) = omega arith
 bit-small (unset h) = omega arith
 
--- The lowest bit of what is put together says whether the last mark stands ..
+-- The lowest bit of what is put together says whether the last mark stands.
 lowest : {Mark : Type 0} {r : ℕ} (byte : ℕ) → BitOf Mark r → T (bit 0 (2 * byte + r)) ↔ Mark
-lowest byte (set h) = let e : (2 * byte + 1) % 2 ≡ 1 = omega arith in (λ t. h, λ m. rw (pow-zero, div-one, e) tt)
-lowest byte (unset h) =
-    let e : (2 * byte + 0) % 2 ≡ 0 = omega arith in (λ t. absurd (rw (pow-zero, div-one, e) at t), λ m. absurd (h m))
-
--- .. and each other one is the one below it of what there was.
-halved : (byte r : ℕ) → r ≤ 1 → (2 * byte + r) / 2 ≡ byte
-halved byte r h = omega arith
-
-shifted : (byte r j : ℕ) → r ≤ 1 → bit (suc j) (2 * byte + r) ≡ bit j byte
-shifted byte r j h = rw (pow-succ', ← div-div-eq-div-mul, halved byte r h)
+lowest byte (set h) = (λ t. h, λ m. rw (lowest-bit byte true) tt)
+lowest byte (unset h) = (λ t. absurd (rw (lowest-bit byte false) at t), λ m. absurd (h m))
 
 -- A byte that is put together so far of the n marks from place p on.
 pub record Packed (Mark : ℕ → Type 0) (p n byte : ℕ) : Type 0 where
@@ -45,7 +39,7 @@ packed-steps {Mark} {p} {n} {byte} {r} h e d =
     right zero l = let same : p - 1 + 0 ≡ p - 1 = omega arith in rw same (lowest byte e)
     right (suc j) l =
         let same : p - 1 + suc j ≡ p + j = omega arith in
-        rw (same, shifted byte r j (bit-small e)) (d .right j (omega arith))
+        rw (same, higher-bit j byte r (bit-small e)) (d .right j (omega arith))
 
 -- Up to seven marks leave room for one more.
 pub packed-room : {Mark : ℕ → Type 0} {p n byte r : ℕ} → n < 8 → r ≤ 1 → Packed Mark p n byte → 2 * byte + r < 256

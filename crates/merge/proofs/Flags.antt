@@ -1,32 +1,22 @@
--- Flags written as bytes and read back: the lowest bit of a number is the first flag, and half of it holds the others.
-use mathlib.Core.Bool.{Bool, true, false}
-use mathlib.Core.Path.{_≡_, refl, ap, sym, _∙_}
+-- Flags written as bytes and read back: the lowest bit of a number is the first flag, and the higher ones are the others.
+use mathlib.Core.Bool.{Bool}
+use mathlib.Core.Path.{_≡_, refl, ap, _∙_}
 use Prim.Native.Nat.{ℕ, zero, suc, _+_, _*_, _/_, _%_, _<_}
 use native.Mathlib.Omega.{arith}
 use lib.ListN.{length, getD}
 use Rattle.model.specs.Bits.{oneIf, bit, bitAt, Bytes}
-use Rattle.model.proofs.Bytes.{halved}
+use Rattle.model.proofs.Bytes.{one-most, lowest-bit, higher-bit}
 use Rattle.merge.specs.Answer.{bitsFrom, bytesFrom}
 use Rattle.merge.proofs.Packing.{bits-below}
-
--- Of a flag below other bits the flag is the lowest bit, and half of the number is the others.
-lowest : (b : Bool) (x : ℕ) → bit 0 (oneIf b + 2 * x) ≡ b
-lowest true x = let e : (1 + 2 * x) / 1 % 2 ≡ 1 = omega arith in rw e
-lowest false x = let e : (0 + 2 * x) / 1 % 2 ≡ 0 = omega arith in rw e
-
-half : (b : Bool) (x : ℕ) → (oneIf b + 2 * x) / 2 ≡ x
-half true x = omega arith
-half false x = omega arith
 
 module _ (f : ℕ → Bool) where
   -- The bits are the flags ..
   bit-back : (n p i : ℕ) → i < n → bit i (bitsFrom f p n) ≡ f (p + i)
   unfolding bitsFrom
   bit-back zero p i h = absurd (omega arith)
-  bit-back (suc n) p zero h = lowest (f p) (bitsFrom f (suc p) n) ∙ ap f (omega arith)
+  bit-back (suc n) p zero h = lowest-bit (bitsFrom f (suc p) n) (f p) ∙ ap f (omega arith)
   bit-back (suc n) p (suc i) h =
-      let rest = bitsFrom f (suc p) n in
-      sym (halved i (oneIf (f p) + 2 * rest)) ∙ rw (half (f p) rest) (bit-back n (suc p) i (omega arith) ∙ ap f (omega arith))
+      higher-bit i (bitsFrom f (suc p) n) (oneIf (f p)) (one-most (f p)) ∙ (bit-back n (suc p) i (omega arith) ∙ ap f (omega arith))
 
   -- .. and each byte holds eight of them.
   byte-back : (n p i : ℕ) → i < n → getD (bytesFrom f p n) i 0 ≡ bitsFrom f (p + i * 8) 8

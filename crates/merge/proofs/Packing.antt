@@ -1,5 +1,5 @@
 -- Flags packed into a byte from the highest down: each flag doubles what is packed and comes below it.
-use mathlib.Core.Bool.{Bool, true, false}
+use mathlib.Core.Bool.{Bool}
 use mathlib.Core.List.{List}
 use mathlib.Core.Path.{_≡_, refl}
 use Prim.Native.Nat.{ℕ, zero, suc, _+_, _-_, _*_, _^_, _≤_, _<_}
@@ -7,12 +7,8 @@ use native.Mathlib.Nat.{pow-succ'}
 use native.Mathlib.Omega.{arith}
 use lib.Pow.{pow-mono}
 use Rattle.model.specs.Bits.{oneIf}
+use Rattle.model.proofs.Bytes.{one-most}
 use Rattle.merge.specs.Answer.{bitsFrom, flagAt}
-
--- A flag as a number is at most 1.
-pub one-most : (b : Bool) → oneIf b ≤ 1
-one-most true = omega arith
-one-most false = omega arith
 
 -- The number of n bits is below 2ⁿ.
 pub bits-below : (f : ℕ → Bool) (p n : ℕ) → bitsFrom f p n < 2 ^ n

@@ -62,7 +62,7 @@ mergeFault m n = firstOf (partsFault m n ∷ clashFault m n ∷ sizeFault m n �
 -- The n bits from place p on as a number, lowest first.
 unfoldable pub bitsFrom : (ℕ → Bool) → ℕ → ℕ → ℕ
 bitsFrom f p zero = 0
-bitsFrom f p (suc n) = oneIf (f p) + 2 * bitsFrom f (suc p) n
+bitsFrom f p (suc n) = 2 * bitsFrom f (suc p) n + oneIf (f p)
 
 -- The n bytes whose bits are those from place p on.
 unfoldable pub bytesFrom : (ℕ → Bool) → ℕ → ℕ → List ℕ

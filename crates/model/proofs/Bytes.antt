@@ -1,14 +1,14 @@
--- Bytes: parts of a list of them are bytes, and bytes whose bits are the same are the same, by halves.
-use mathlib.Core.Bool.{true≢false}
+-- Bytes: parts of a list of them are bytes, a bit put below a number, and bytes whose bits are the same are the same, by halves.
+use mathlib.Core.Bool.{Bool, true, false, true≢false}
 use mathlib.Core.List.{List, [], _∷_, _++_}
 use mathlib.Core.Path.{_≡_, refl, sym, ap, _∙_}
-use Prim.Native.Nat.{ℕ, zero, suc, _+_, _*_, _/_, _%_, _^_, _<_}
+use Prim.Native.Nat.{ℕ, zero, suc, _+_, _*_, _/_, _%_, _^_, _≤_, _<_}
 use native.Mathlib.Nat.{div-div-eq-div-mul, pow-succ', div-one}
 use native.Mathlib.Omega.{arith}
 use lib.Dec.{eqb}
 use lib.ListN.{length, getD}
 use lib.Seq.{ext-getD}
-use Rattle.model.specs.Bits.{bit, bitAt, Bytes}
+use Rattle.model.specs.Bits.{bit, oneIf, bitAt, Bytes}
 
 -- Each number of a list of bytes is one.
 pub byte-at : (l : List ℕ) → Bytes l → (i : ℕ) → getD l i 0 < 256
@@ -36,8 +36,21 @@ parity (suc zero) (suc (suc y)) h k e = absurd (omega arith)
 parity (suc (suc x)) y h k e = absurd (omega arith)
 
 -- A bit of half a number is the next bit of the number.
-pub halved : (j n : ℕ) → bit j (n / 2) ≡ bit (suc j) n
+halved : (j n : ℕ) → bit j (n / 2) ≡ bit (suc j) n
 halved j n = ap (λ x. eqb (x % 2) 1) (div-div-eq-div-mul n 2 (2 ^ j) ∙ ap (λ x. n / x) (sym (pow-succ' 2 j)))
+
+-- A bit put below a number is the lowest of what they make, and the others are the number's.
+pub lowest-bit : (x : ℕ) (b : Bool) → bit 0 (2 * x + oneIf b) ≡ b
+lowest-bit x true = let e : (2 * x + 1) / 1 % 2 ≡ 1 = omega arith in rw e
+lowest-bit x false = let e : (2 * x + 0) / 1 % 2 ≡ 0 = omega arith in rw e
+
+pub higher-bit : (j x r : ℕ) → r ≤ 1 → bit (suc j) (2 * x + r) ≡ bit j x
+higher-bit j x r h = let half : (2 * x + r) / 2 ≡ x = omega arith in sym (halved j (2 * x + r)) ∙ ap (bit j) half
+
+-- A bit as a number is at most 1.
+pub one-most : (b : Bool) → oneIf b ≤ 1
+one-most true = omega arith
+one-most false = omega arith
 
 -- Numbers of k bits are the same if their bits are.
 same-bits : (k b c : ℕ) → b < 2 ^ k → c < 2 ^ k → ((j : ℕ) → j < k → bit j b ≡ bit j c) → b ≡ c
