@@ -1,5 +1,5 @@
 // Before anything is timed: both sides must say the same of a model, and each schedule must reach the target on both, not before its
-// last step, and give the same page; and both must make the same one of two models.
+// last step and as deep as its verdict says, and give the same page; and both must make the same one of two models.
 use crate::{numbers, proved, reference};
 
 pub fn agree(record: &[u8]) -> Result<(), String> {
@@ -11,34 +11,43 @@ pub fn agree(record: &[u8]) -> Result<(), String> {
     let mut schedules = [[0; 8190]; 2];
     let [a, b, c, d] = &mut stores;
     let [x, y] = &mut schedules;
-    let verdict = (proved::judge(record, a, x), reference::judge(record, b, y));
-    if verdict.0 != verdict.1 || numbers::kind(verdict.0) < numbers::CLEAR {
-        return Err(format!("judge says {} and {}", verdict.0, verdict.1));
+    let verdicts = [proved::judge(record, a, x), reference::judge(record, b, y)];
+    let verdict = numbers::verdict(verdicts[0]);
+    if verdict != numbers::verdict(verdicts[1]) || numbers::kind(verdict) < numbers::CLEAR {
+        return Err(format!("judge says {} and {}", verdicts[0], verdicts[1]));
     }
     let lines = (proved::lines(record, c), reference::lines(record, d));
     if lines != (numbers::DONE, numbers::DONE) || stores.iter().any(|store| *store != stores[0]) {
         return Err("the line tables differ".to_string());
     }
-    if numbers::kind(verdict.0) == numbers::FOUND {
-        for schedule in &schedules {
-            let steps = &schedule[..2 * numbers::steps(verdict.0)];
-            same_replay(record, steps, &[numbers::REACHED])?;
-            // without its last step it stops elsewhere, or no turn may end there
-            if let Some(short) = steps.len().checked_sub(2) {
-                same_replay(record, &steps[..short], &[numbers::STOPPED, numbers::HELD])?;
-            }
-            same_page(record, steps)?;
+    if numbers::kind(verdict) == numbers::FOUND {
+        for (schedule, found) in schedules.iter().zip(verdicts) {
+            same_schedule(record, &schedule[..2 * numbers::steps(found)], found)?;
         }
     }
     same_page(record, &[])
 }
 
-fn same_replay(record: &[u8], schedule: &[u8], kinds: &[u64]) -> Result<(), String> {
+// The schedule that one side wrote, and the Found that it answered. The other side's schedule may be another, of other depths.
+fn same_schedule(record: &[u8], steps: &[u8], found: u64) -> Result<(), String> {
+    let last = same_replay(record, steps, &[numbers::REACHED])?;
+    if numbers::depths(last) != numbers::depths(found) {
+        return Err(format!("judge says {found}, and replay of its schedule {last}"));
+    }
+    // without its last step it stops elsewhere, or no turn may end there
+    if let Some(short) = steps.len().checked_sub(2) {
+        same_replay(record, &steps[..short], &[numbers::STOPPED, numbers::HELD])?;
+    }
+    same_page(record, steps)
+}
+
+// What both sides say of a schedule, depths included. It is of one of these kinds.
+fn same_replay(record: &[u8], schedule: &[u8], kinds: &[u64]) -> Result<u64, String> {
     let last = (proved::replay(record, schedule), reference::replay(record, schedule));
     if last.0 != last.1 || !kinds.contains(&numbers::kind(last.0)) {
         return Err(format!("replay says {} and {}", last.0, last.1));
     }
-    Ok(())
+    Ok(last.0)
 }
 
 // Two models made one, in a store with room and, where they make one, in a store without. It is a model like the others, and its verdict

@@ -1,4 +1,5 @@
-// The numbers that the calls answer: a kind in the low byte, and what it carries from bit 16 on. A refusal's kind is its own number.
+// The numbers that the calls answer: a kind in the low byte, and what it carries from bit 16 on. A refusal's kind is its own number. The
+// depths of A and of B, where a number has them, stand from bit 32 and from bit 48 on.
 pub const DONE: u64 = 0;
 pub const HELD: u64 = 12;
 pub const WRITTEN: u64 = 32;
@@ -19,6 +20,12 @@ pub fn packed(kind: u64, carried: u64) -> u64 {
     kind | carried << 16
 }
 
+// A count or a state, and the depths of A and of B.
+pub fn with_depths(kind: u64, carried: usize, depths: [usize; 2]) -> u64 {
+    let [carried, a, b] = [carried, depths[0], depths[1]].map(|n| n as u64);
+    packed(kind, carried | a << 16 | b << 32)
+}
+
 pub fn kind(number: u64) -> u64 {
     number & 0xFF
 }
@@ -31,8 +38,22 @@ pub fn written(number: u64) -> Option<usize> {
 // How many steps a schedule has that a judgement wrote: none, unless it is Found.
 pub fn steps(number: u64) -> usize {
     if kind(number) == FOUND {
-        (number >> 16) as usize
+        (number >> 16 & 0xFFFF) as usize
     } else {
         0
+    }
+}
+
+// Both depths of a number that has them.
+pub fn depths(number: u64) -> u64 {
+    number >> 32
+}
+
+// What two judgements of a model must agree in: all but the depths of Found, since shortest schedules may differ in these.
+pub fn verdict(number: u64) -> u64 {
+    if kind(number) == FOUND {
+        number & 0xFFFF_FFFF
+    } else {
+        number
     }
 }

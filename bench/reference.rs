@@ -9,7 +9,7 @@ mod walk;
 mod witness;
 mod writer;
 
-use crate::numbers::{packed, CLEAR, DONE, FOUND, LONG, PAGED, REACHED, STOPPED, WRITTEN};
+use crate::numbers::{packed, with_depths, CLEAR, DONE, FOUND, LONG, PAGED, REACHED, STOPPED, WRITTEN};
 
 #[derive(Clone, Copy)]
 pub enum Right {
@@ -73,7 +73,7 @@ pub fn lines(record: &[u8], store: &mut [u8]) -> u64 {
     DONE
 }
 
-// The same, and a shortest schedule at the front of its store.
+// The same, and a shortest schedule at the front of its store, which is then walked for its depths.
 pub fn judge(record: &[u8], store: &mut [u8], schedule: &mut [u8]) -> u64 {
     let model = match record::read(record) {
         Ok(model) => model,
@@ -92,8 +92,12 @@ pub fn judge(record: &[u8], store: &mut [u8], schedule: &mut [u8]) -> u64 {
     if steps == table::LONG {
         return LONG;
     }
+    let steps = usize::from(steps);
     witness::write(&model, line, a[line], b[line], schedule);
-    packed(FOUND, u64::from(steps))
+    match walk::walk(&model, &schedule[..2 * steps]) {
+        Ok(last) => with_depths(FOUND, steps, last.depths),
+        Err(number) => number,
+    }
 }
 
 pub fn replay(record: &[u8], schedule: &[u8]) -> u64 {
@@ -102,8 +106,7 @@ pub fn replay(record: &[u8], schedule: &[u8]) -> u64 {
         Err(number) => return number,
     };
     match walk::walk(&model, schedule) {
-        Ok((last, true)) => packed(REACHED, last as u64),
-        Ok((last, false)) => packed(STOPPED, last as u64),
+        Ok(last) => with_depths(if last.target { REACHED } else { STOPPED }, last.shared, last.depths),
         Err(number) => number,
     }
 }

@@ -1,8 +1,8 @@
 /* turncheck: a proved checker for races between two threads with stacks, as it is called from C.
  *
  * Each call takes the bytes of a model record, of two of them or of a tray, and answers a number. The number's kind, TURNCHECK_KIND, says
- * what is answered: why the call refuses (enum turncheck_refusal, 1 to 31), or what it found (enum turncheck_kind). A count or a state that
- * belongs to the answer stands above the kind, and a macro takes it out. A call that refuses changes no byte of any store. Nothing else is
+ * what is answered: why the call refuses (enum turncheck_refusal, 1 to 31), or what it found (enum turncheck_kind). Counts and states that
+ * belong to the answer stand above the kind, and macros take them out. A call that refuses changes no byte of any store. Nothing else is
  * asked of the bytes: any are taken.
  *
  * The rules of a thread ascend, each above the one before it: by before state, before symbol, after state, number of new symbols, first new
@@ -14,6 +14,9 @@
  * A record may also mark rules of A and of B as held, by eight bytes for each thread: bit r mod 8 of byte r div 8, the lowest bit being
  * bit 0, marks rule r. No turn ends right after a held step, and so no run does: the target counts only where a turn may end. A turn
  * without steps may always end.
+ *
+ * The depth of A in a schedule is the greatest number of symbols that A's stack held at any point of its run, the starting symbol counted;
+ * and so for B. A stack that never grew has depth 1, and 4,095 pushes give 4,096.
  *
  * Each slice is a pointer and a length. The pointer is never NULL, even where the length is 0. While a call runs, nothing else
  * writes to its slices, and no store overlaps another slice of the same call. A call keeps no pointer, allocates nothing and has
@@ -63,26 +66,30 @@ enum turncheck_kind {
     TURNCHECK_WRITTEN = 32, /* turncheck_write, turncheck_merge: TURNCHECK_LENGTH bytes were written */
     TURNCHECK_CLEAR = 33,   /* turncheck_judge: no run reaches the target */
     TURNCHECK_LONG = 34,    /* turncheck_judge: some run does, and each that does has more than 4,095 steps */
-    TURNCHECK_FOUND = 35,   /* turncheck_judge: some run does, and a shortest that does has TURNCHECK_STEPS steps */
-    TURNCHECK_STOPPED = 36, /* turncheck_replay: the last shared state is TURNCHECK_STATE, and the run does not end at the target */
-    TURNCHECK_REACHED = 37, /* turncheck_replay: the last shared state is TURNCHECK_STATE, and the run ends at the target */
+    TURNCHECK_FOUND = 35,   /* turncheck_judge: some run does, and a shortest that does has TURNCHECK_STEPS steps; with its depths */
+    TURNCHECK_STOPPED = 36, /* turncheck_replay: the run ends in TURNCHECK_STATE, and not at the target; with its depths */
+    TURNCHECK_REACHED = 37, /* turncheck_replay: the run ends in TURNCHECK_STATE, and at the target; with its depths */
     TURNCHECK_TAKEN = 38,   /* turncheck_first: the tray's first TURNCHECK_LENGTH bytes are a record */
     TURNCHECK_NONE = 39,    /* turncheck_first: the tray is empty */
     TURNCHECK_PAGED = 40    /* turncheck_page: TURNCHECK_PAGE_LENGTH bytes were written */
 };
 
-/* The parts of a number: its kind in bits 0 to 7, and fields of 16 bits, the first in bits 16 to 31. The length of a page takes the first
- * two, bits 16 to 47. Other bits are 0. */
+/* The parts of a number: its kind in bits 0 to 7, and three fields of 16 bits, in bits 16 to 31, 32 to 47 and 48 to 63. The length of a
+ * page takes the first two, bits 16 to 47. Fields that a kind has no use for are 0, and so are the other bits. */
 #define TURNCHECK_KIND(number) ((unsigned)((number)&0xFF))
 #define TURNCHECK_FIELD1(number) ((unsigned)((number) >> 16 & 0xFFFF))
+#define TURNCHECK_FIELD2(number) ((unsigned)((number) >> 32 & 0xFFFF))
+#define TURNCHECK_FIELD3(number) ((unsigned)((number) >> 48 & 0xFFFF))
 
 /* Whether a call refused. TURNCHECK_KIND then says why. */
 #define TURNCHECK_IS_REFUSED(number) (TURNCHECK_KIND(number) >= 1 && TURNCHECK_KIND(number) <= 31)
 
 /* What a number of the right kind carries. */
-#define TURNCHECK_LENGTH(number) TURNCHECK_FIELD1(number) /* TURNCHECK_WRITTEN, TURNCHECK_TAKEN: a record's length, at most 668 */
-#define TURNCHECK_STEPS(number) TURNCHECK_FIELD1(number)  /* TURNCHECK_FOUND: steps, at most 4,095 */
-#define TURNCHECK_STATE(number) TURNCHECK_FIELD1(number)  /* TURNCHECK_STOPPED, TURNCHECK_REACHED: a state, at most 3 */
+#define TURNCHECK_LENGTH(number) TURNCHECK_FIELD1(number)  /* TURNCHECK_WRITTEN, TURNCHECK_TAKEN: a record's length, at most 668 */
+#define TURNCHECK_STEPS(number) TURNCHECK_FIELD1(number)   /* TURNCHECK_FOUND: steps, at most 4,095 */
+#define TURNCHECK_STATE(number) TURNCHECK_FIELD1(number)   /* TURNCHECK_STOPPED, TURNCHECK_REACHED: a shared state, at most 3 */
+#define TURNCHECK_DEPTH_A(number) TURNCHECK_FIELD2(number) /* TURNCHECK_FOUND, _STOPPED, _REACHED: the depth of A, 1 to 4,096 */
+#define TURNCHECK_DEPTH_B(number) TURNCHECK_FIELD3(number) /* the same kinds: the depth of B, 1 to 4,096 */
 #define TURNCHECK_PAGE_LENGTH(number) ((size_t)((number) >> 16 & 0xFFFFFFFF)) /* TURNCHECK_PAGED: at most 299,008 */
 
 /* Reads a record: TURNCHECK_DONE, or refusal 1 to 6, 11 or 13. */
@@ -110,15 +117,16 @@ uint64_t turncheck_merge(const uint8_t *first, size_t first_size, const uint8_t 
  * Answers TURNCHECK_DONE, or refusal 1 to 7, 11 or 13. */
 uint64_t turncheck_lines(const uint8_t *record, size_t record_size, uint8_t *lines, size_t lines_size);
 
-/* Judges a record's model: TURNCHECK_CLEAR, TURNCHECK_LONG, or TURNCHECK_FOUND with the number of steps; or refusal 1 to 7, 11
- * or 13. Each verdict fills the line table as turncheck_lines does. Found writes a shortest schedule to the front of the schedule store,
- * two bytes a step: the turn, and the rule's number in its thread's list, from 0. All other bytes keep their value. The schedule
- * store has at least TURNCHECK_SCHEDULE_BYTES, whatever the verdict. */
+/* Judges a record's model: TURNCHECK_CLEAR, TURNCHECK_LONG, or TURNCHECK_FOUND with the number of steps and the depths of A and of B; or
+ * refusal 1 to 7, 11 or 13. Each verdict fills the line table as turncheck_lines does. Found writes a shortest schedule to the front of the
+ * schedule store, two bytes a step: the turn, and the rule's number in its thread's list, from 0. All other bytes keep their value. The
+ * depths are those of this schedule, as turncheck_replay gives them; another one that is as short may have others. The schedule store has
+ * at least TURNCHECK_SCHEDULE_BYTES, whatever the verdict. */
 uint64_t turncheck_judge(const uint8_t *record, size_t record_size, uint8_t *lines, size_t lines_size, uint8_t *schedule,
                          size_t schedule_size);
 
-/* Walks a schedule of a record's model from its start: TURNCHECK_STOPPED or TURNCHECK_REACHED with the last shared state,
- * or refusal 1 to 6 or 8 to 13. */
+/* Walks a schedule of a record's model from its start: TURNCHECK_STOPPED or TURNCHECK_REACHED with the last shared state and the
+ * depths of A and of B; or refusal 1 to 6 or 8 to 13. */
 uint64_t turncheck_replay(const uint8_t *record, size_t record_size, const uint8_t *schedule, size_t schedule_size);
 
 /* Walks a schedule of a record's model as turncheck_replay does, and writes its page to the front of the store, in ASCII: a line of 72

@@ -11,20 +11,31 @@ pub struct Walk {
 
 pub type Stacks = [Vec<usize>; 2];
 
-// The last shared state and whether the run ends at the target, or the number of the first fault.
-pub fn walk(m: &Model, schedule: &[u8]) -> Result<(usize, bool), u64> {
+// Where a walk ends: the last shared state, whether the run ends at the target, and the most symbols that each stack has held.
+pub struct Last {
+    pub shared: usize,
+    pub target: bool,
+    pub depths: [usize; 2],
+}
+
+// Its end, or the number of the first fault.
+pub fn walk(m: &Model, schedule: &[u8]) -> Result<Last, u64> {
     if schedule.len() % 2 != 0 || schedule.len() > 8190 {
         return Err(8);
     }
     let (mut walk, mut stacks) = Walk::start(m);
+    let mut depths = [1, 1];
     for step in schedule.chunks_exact(2) {
         walk.step(m, step, &mut stacks)?;
+        let thread = walk.turn % 2;
+        depths[thread] = stacks[thread].len().max(depths[thread]);
     }
     if walk.held {
         return Err(12);
     }
     let [a, b] = &stacks;
-    Ok((walk.shared, walk.shared == m.target && has_top(m.a.top, a) && has_top(m.b.top, b)))
+    let target = walk.shared == m.target && has_top(m.a.top, a) && has_top(m.b.top, b);
+    Ok(Last { shared: walk.shared, target, depths })
 }
 
 // Whether a stack has the top that is asked for. An empty one has none.

@@ -125,7 +125,9 @@ static void tell(uint64_t n, int read, char *words, size_t size) {
         snprintf(words, size, "refused:%u", kind);
     else if ((kind == TURNCHECK_CLEAR || kind == TURNCHECK_LONG || kind == TURNCHECK_NONE) && n == kind)
         snprintf(words, size, "%s", names[kind - TURNCHECK_WRITTEN]);
-    else if (kind >= TURNCHECK_WRITTEN && kind < TURNCHECK_NONE && n == ((uint64_t)field << 16 | kind))
+    else if (kind >= TURNCHECK_FOUND && kind <= TURNCHECK_REACHED && (n & 0xFF00) == 0)
+        snprintf(words, size, "%s:%u:%u:%u", names[kind - TURNCHECK_WRITTEN], field, TURNCHECK_DEPTH_A(n), TURNCHECK_DEPTH_B(n));
+    else if ((kind == TURNCHECK_WRITTEN || kind == TURNCHECK_TAKEN) && n == ((uint64_t)field << 16 | kind))
         snprintf(words, size, "%s:%u", names[kind - TURNCHECK_WRITTEN], field);
     else if (kind == TURNCHECK_PAGED && n == ((uint64_t)TURNCHECK_PAGE_LENGTH(n) << 16 | kind))
         snprintf(words, size, "page:%zu", TURNCHECK_PAGE_LENGTH(n));
@@ -133,7 +135,7 @@ static void tell(uint64_t n, int read, char *words, size_t size) {
         snprintf(words, size, "number:%" PRIu64, n);
 }
 
-/* What a verdict left: the table that turncheck_lines fills, and a schedule that replay finds to reach the target. */
+/* What a verdict left: the table that turncheck_lines fills, and a schedule that replay finds to reach the target, with the same depths. */
 static int judged(uint64_t verdict, size_t stack) {
     static struct bytes table, found;
     table = first;
@@ -144,7 +146,10 @@ static int judged(uint64_t verdict, size_t stack) {
     int is_found = TURNCHECK_KIND(verdict) == TURNCHECK_FOUND;
     first.size = is_found ? 2 * (size_t)TURNCHECK_STEPS(verdict) : 0;
     if (!begins(&found, &first)) return 0;
-    return !is_found || TURNCHECK_KIND(on_thread("replay", stack)) == TURNCHECK_REACHED;
+    if (!is_found) return 1;
+    uint64_t last = on_thread("replay", stack);
+    return TURNCHECK_KIND(last) == TURNCHECK_REACHED && TURNCHECK_DEPTH_A(last) == TURNCHECK_DEPTH_A(verdict) &&
+           TURNCHECK_DEPTH_B(last) == TURNCHECK_DEPTH_B(verdict);
 }
 
 /* What was taken from a tray is a record by itself. */

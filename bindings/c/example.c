@@ -25,7 +25,7 @@ static int judge(const uint8_t *record, size_t size) {
     default: return refused(answer);
     }
     size_t steps = TURNCHECK_STEPS(answer);
-    printf("found %zu\n", steps);
+    printf("found %zu %u %u\n", steps, TURNCHECK_DEPTH_A(answer), TURNCHECK_DEPTH_B(answer));
     for (size_t i = 0; i < steps; i++) {
         unsigned turn = schedule[2 * i], rule = schedule[2 * i + 1];
         printf("%u %c %u\n", turn, turn % 2 == 0 ? 'A' : 'B', rule);

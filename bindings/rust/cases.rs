@@ -3,7 +3,7 @@
 #[allow(dead_code)]
 mod turncheck;
 
-use turncheck::{First, Last, Refusal, Verdict};
+use turncheck::{Depths, First, Last, Refusal, Verdict};
 
 const FILLER: u8 = 0xAA;
 
@@ -53,12 +53,12 @@ fn verdict(v: Verdict) -> String {
     match v {
         Verdict::Clear => "clear".into(),
         Verdict::Long => "long".into(),
-        Verdict::Found(n) => format!("found:{n}"),
+        Verdict::Found(n, d) => format!("found:{n}:{}:{}", d.a, d.b),
     }
 }
 
 fn last(l: Last) -> String {
-    format!("{}:{}", if l.target { "target" } else { "state" }, l.state)
+    format!("{}:{}:{}:{}", if l.target { "target" } else { "state" }, l.state, l.depths.a, l.depths.b)
 }
 
 /// What is expected of a store, by a word: `?` for anything, `=` for the record, `@` and a name for a file, no word for no bytes.
@@ -74,7 +74,8 @@ fn expects(word: Option<&&str>, record: &[u8], store: &[u8]) -> bool {
     }
 }
 
-/// A judgement. The table of a verdict is the one that `lines` fills, and replay finds that its schedule reaches the target.
+/// A judgement. The table of a verdict is the one that `lines` fills, and replay finds that its schedule reaches the target, with the same
+/// depths.
 fn judged(record: &[u8], word: &[&str], stack: usize) -> bool {
     let (mut table, mut found, mut again) = (lent(word[0]), lent(word[1]), lent(word[0]));
     let answer = on_thread(stack, || turncheck::judge(record, &mut table, &mut found));
@@ -83,13 +84,14 @@ fn judged(record: &[u8], word: &[&str], stack: usize) -> bool {
         return false;
     }
     let Ok(v) = answer else { return true };
-    let steps = if let Verdict::Found(n) = v { n } else { 0 };
+    let (steps, depths) = if let Verdict::Found(n, d) = v { (n, Some(d)) } else { (0, None) };
     let schedule = &found[..2 * steps];
-    let reaches = || on_thread(stack, || turncheck::replay(record, schedule)).is_ok_and(|l| l.target);
+    let replayed = || on_thread(stack, || turncheck::replay(record, schedule));
+    let reaches = |d: Depths| replayed().is_ok_and(|l| l.target && l.depths == d);
     on_thread(stack, || turncheck::lines(record, &mut again)).is_ok()
         && again == table
         && holds(&found, schedule)
-        && (v != Verdict::Found(steps) || reaches())
+        && depths.is_none_or(reaches)
 }
 
 /// The first record of a tray. What is taken is a record by itself, and the rest is what stands behind it.

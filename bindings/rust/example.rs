@@ -17,8 +17,8 @@ fn judge(record: &[u8]) -> Result<(), Refusal> {
     match turncheck::judge(record, &mut lines, &mut schedule)? {
         Verdict::Clear => println!("clear"),
         Verdict::Long => println!("long"),
-        Verdict::Found(steps) => {
-            println!("found {steps}");
+        Verdict::Found(steps, depths) => {
+            println!("found {steps} {} {}", depths.a, depths.b);
             let found = &schedule[..2 * steps];
             for step in found.chunks(2) {
                 let thread = if step[0] % 2 == 0 { 'A' } else { 'B' };

@@ -64,15 +64,24 @@ pub enum Verdict {
     Clear,
     /// Some run does, and each that does has more than 4,095 steps.
     Long,
-    /// A shortest run that does has so many steps.
-    Found(usize),
+    /// A shortest run that does has so many steps. The depths are those of the schedule that was written.
+    Found(usize, Depths),
 }
 
-/// Where a schedule ends: the last shared state, and whether its run reaches the target.
+/// The greatest numbers of symbols that A's and that B's stack held at any point of a schedule's run, the starting symbol counted: 1 for a
+/// stack that never grew, and at most 4,096.
+#[derive(Clone, Copy, Debug, PartialEq, Eq)]
+pub struct Depths {
+    pub a: usize,
+    pub b: usize,
+}
+
+/// Where a schedule ends, the last shared state and whether its run reaches the target, and the depths of its run.
 #[derive(Clone, Copy, Debug, PartialEq, Eq)]
 pub struct Last {
     pub state: u16,
     pub target: bool,
+    pub depths: Depths,
 }
 
 /// The first record of a tray, and the rest.
@@ -126,9 +135,17 @@ const TAKEN: u16 = 38;
 const NONE: u16 = 39;
 const PAGED: u16 = 40;
 
+/// The greatest depth: that of 4,095 pushes upon the starting symbol.
+const DEEPEST: u16 = 4096;
+
 /// A number's kind, whose upper byte is 0, and the three fields above it.
 fn parts(number: u64) -> [u16; 4] {
     [0, 16, 32, 48].map(|bits| (number >> bits) as u16)
+}
+
+/// The depths in a number's second and third field.
+fn depths(a: u16, b: u16) -> Depths {
+    Depths { a: a.into(), b: b.into() }
 }
 
 /// The refusal that a number says. Panics on a number that this wrapper does not know: the library is of another version.
@@ -212,7 +229,8 @@ pub fn lines(record: &[u8], lines: &mut [u8]) -> Result<(), Refusal> {
 }
 
 /// Judges a record's model. Each verdict fills the line table as `lines` does. Found writes a shortest schedule to the front of the
-/// schedule store, two bytes a step: the turn, and the rule's number in its thread's list, from 0. All other bytes keep their value.
+/// schedule store, two bytes a step: the turn, and the rule's number in its thread's list, from 0. All other bytes keep their value. The
+/// depths are those of this schedule, as `replay` gives them; another one that is as short may have others.
 pub fn judge(record: &[u8], lines: &mut [u8], schedule: &mut [u8]) -> Result<Verdict, Refusal> {
     let number = unsafe {
         turncheck_judge(
@@ -227,17 +245,17 @@ pub fn judge(record: &[u8], lines: &mut [u8], schedule: &mut [u8]) -> Result<Ver
     match parts(number) {
         [CLEAR, 0, 0, 0] => Ok(Verdict::Clear),
         [LONG, 0, 0, 0] => Ok(Verdict::Long),
-        [FOUND, steps, 0, 0] => Ok(Verdict::Found(steps.into())),
+        [FOUND, steps, a @ 1..=DEEPEST, b @ 1..=DEEPEST] => Ok(Verdict::Found(steps.into(), depths(a, b))),
         _ => Err(refusal(number)),
     }
 }
 
-/// Walks a schedule of a record's model from its start.
+/// Walks a schedule of a record's model from its start, and answers where it ends and how deep it went.
 pub fn replay(record: &[u8], schedule: &[u8]) -> Result<Last, Refusal> {
     let number = unsafe { turncheck_replay(record.as_ptr(), record.len(), schedule.as_ptr(), schedule.len()) };
     match parts(number) {
-        [STOPPED, state, 0, 0] => Ok(Last { state, target: false }),
-        [REACHED, state, 0, 0] => Ok(Last { state, target: true }),
+        [STOPPED, state, a @ 1..=DEEPEST, b @ 1..=DEEPEST] => Ok(Last { state, target: false, depths: depths(a, b) }),
+        [REACHED, state, a @ 1..=DEEPEST, b @ 1..=DEEPEST] => Ok(Last { state, target: true, depths: depths(a, b) }),
         _ => Err(refusal(number)),
     }
 }

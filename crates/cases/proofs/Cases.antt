@@ -7,9 +7,11 @@ use Prim.Native.Nat.{ℕ, _*_, _<_}
 use native.Mathlib.Omega.{arith}
 use lib.Dec.{T, leb, eqb}
 use lib.ListN.{length, getD}
+use Rattle.model.specs.declared.Depths.{Depths}
 use Rattle.model.specs.declared.Model.{Model}
 use Rattle.model.specs.declared.Shared.{Shared}
 use Rattle.model.specs.Bits.{allZero}
+use Rattle.model.specs.Depths.{depthFrom}
 use Rattle.model.specs.Lines.{powers, digits}
 use Rattle.model.specs.Order.{rightKey, keyOf, above}
 use Rattle.model.specs.Results.{refused, accepted, firstOf}
@@ -39,31 +41,32 @@ abbrev linesRight : Model → List Abstract → Table → Bool
 linesRight m set ungiven = true
 linesRight m set (given store) = drawn m set store
 
--- Replay accepts, with the target as the last state.
-abbrev reaches : Shared → Replayed → Bool
-reaches target (replayed.Accepted shared reached) = eqb (shared .0) (target .0) && reached
-reaches target (replayed.Refused n) = false
+-- Replay accepts, with the target as the last state and these depths.
+abbrev reaches : Shared → Depths → Replayed → Bool
+reaches target d (replayed.Accepted shared reached depths) =
+    eqb (shared .0) (target .0) && reached && eqb (depths .a) (d .a) && eqb (depths .b) (d .b)
+reaches target d (replayed.Refused n) = false
 
 -- Replay refuses by this number.
 abbrev declines : ℕ → Replayed → Bool
-declines n (replayed.Accepted shared reached) = false
+declines n (replayed.Accepted shared reached depths) = false
 declines n (replayed.Refused k) = eqb k n
 
 -- The test of an answer for a model that was read.
 judges : Model → Answer → Bool
 judges m (Refused n) = false
 judges m (Clear t) = let set = explored m 0 in closed m 0 set && avoids m set && linesRight m set t
-judges m (Found n schedule t) =
+judges m (Found n a b schedule t) =
     let set = explored m n in
     closed m n set && delays m n set && linesRight m set t && leb n mostSteps && eqb (length schedule) (2 * n) &&
-    reaches (m .target) (replayOf m schedule)
+    reaches (m .target) (record { a = a; b = b }) (replayOf m schedule)
 judges m (Declined schedule n) = declines n (replayOf m schedule)
 
 -- The test of an answer for what reading came to.
 comes : Read Model → Answer → Bool
 comes (refused k) (Refused n) = eqb k n
 comes (refused k) (Clear t) = false
-comes (refused k) (Found n schedule t) = false
+comes (refused k) (Found n a b schedule t) = false
 comes (refused k) (Declined schedule n) = false
 comes (accepted (m, [])) a = eqb (faultOf m) 0 && judges m a
 comes (accepted (m, b ∷ rest)) a = false
@@ -79,24 +82,25 @@ lines-right m limit set c ungiven h = tt
 lines-right m limit set c (given store) h = drawn-lines m limit set c store h
 
 -- The replay.
-reached-target : (target : Shared) (r : Replayed) → T (reaches target r) → r ≡ replayed.Accepted target true
-reached-target target (replayed.Accepted shared reached) h =
-    let w = both (eqb (shared .0) (target .0)) reached .0 h in
-    let same : shared ≡ target = ap {B = Shared} (λ n. record { 0 = n }) (equal (shared .0) (target .0) .0 (w .0)) in
-    rw (same, passed reached (w .1))
-reached-target target (replayed.Refused n) h = absurd h
+reached-target : (target : Shared) (d : Depths) (r : Replayed) → T (reaches target d r) → r ≡ replayed.Accepted target true d
+reached-target target d (replayed.Accepted shared reached depths) h =
+    let w = simp tests at h in
+    let same : shared ≡ target = ap {B = Shared} (λ n. record { 0 = n }) (w .0 .0 .0) in
+    let deep : depths ≡ d = rw (w .0 .1, w .1) in
+    rw (same, passed reached (w .0 .0 .1), deep)
+reached-target target d (replayed.Refused n) h = absurd h
 
 -- A schedule that is refused.
 declined : (n : ℕ) (r : Replayed) → T (declines n r) → r ≡ replayed.Refused n
-declined n (replayed.Accepted shared reached) h = absurd h
+declined n (replayed.Accepted shared reached depths) h = absurd h
 declined n (replayed.Refused k) h = ap replayed.Refused (equal k n .0 h)
 
 -- The schedule: what replay accepts is one, with two bytes a step.
-scheduled : (m : Model) (n : ℕ) (schedule : List ℕ) → length schedule ≡ 2 * n → T (reaches (m .target) (replayOf m schedule))
-    → Scheduled m n schedule
-scheduled m n schedule e h =
-    let same = reached-target (m .target) (replayOf m schedule) h in
-    let l = accepts m schedule (m .target) true .0 same in (
+scheduled : (m : Model) (n : ℕ) (d : Depths) (schedule : List ℕ) → length schedule ≡ 2 * n
+    → T (reaches (m .target) d (replayOf m schedule)) → Scheduled m n d schedule
+scheduled m n d schedule e h =
+    let same = reached-target (m .target) d (replayOf m schedule) h in
+    let l = accepts m schedule (m .target) true d .0 same in (
       record {
         steps = l .steps;
         run = record { shared = m .target .0; stacks = l .stacks; leads = l .leads; target = rw (← l .target) tt };
@@ -115,11 +119,11 @@ judged bytes m e v (Clear t) h =
     let w = simp tests at h in
     let none = avoids-clear m 0 set (w .0 .0) (valid-fits m .0 v .k .0) (w .0 .1) in
     record { model = m; read = e; valid = v; holds = (none, lines-right m 0 set (w .0 .0) t (w .1)) }
-judged bytes m e v (Found n schedule t) h =
+judged bytes m e v (Found n a b schedule t) h =
     let set : List Abstract = explored m n in
     let w = simp tests at h in
     let c = w .0 .0 .0 .0 in
-    let s = scheduled m n schedule (w .0 .1) (w .1) in
+    let s = scheduled m n (record { a = a; b = b }) schedule (w .0 .1) (w .1) in
     let least = delays-least m n set (c .0) n (valid-fits m .0 v .k .0) (c .1) in
     let shortest : Judged m (found n) =
     (w .0 .0 .1, record { schedule = s .0 .steps; reaches = s .0 .run; steps = s .0 .count; least = least }) in
@@ -131,7 +135,7 @@ come : (bytes : List ℕ) (r : Read Model) → readOf bytes ≡ r → (a : Answe
 unfolding comes
 come bytes (refused k) e (Refused n) h = e ∙ ap refused (equal k n .0 h)
 come bytes (refused k) e (Clear t) h = absurd h
-come bytes (refused k) e (Found n schedule t) h = absurd h
+come bytes (refused k) e (Found n a b schedule t) h = absurd h
 come bytes (refused k) e (Declined schedule n) h = absurd h
 come bytes (accepted (m, [])) e a h =
     let w = both (eqb (faultOf m) 0) (judges m a) .0 h in judged bytes m e (equal (faultOf m) 0 .0 (w .0)) a (w .1)
@@ -143,7 +147,7 @@ unfolding holds
 claimed c t = come (c .bytes) (readOf (c .bytes)) refl (c .answer) t
 
 all-hold : T (every (λ i. holds) cases)
-unfolding cases holds comes judges readOf parseFront parseHead parseByte parseRanged parseField parseRight parseRule parseRuleList parseRules parseTarget parseTop parseMarks parseSecond marksFault allZero explored grow closed next avoids delays absent followed bitRight bitsRight drawn finds powers digits applies replayOf stepsOf sizeFits walk stepFrom fire turnFits turnFree faultOf headFault rangeFault topFault threadFault rulesFault above keyOf rightKey ruleFault rightFault symbolFault markFault freeFrom firstOf
+unfolding cases holds comes judges readOf parseFront parseHead parseByte parseRanged parseField parseRight parseRule parseRuleList parseRules parseTarget parseTop parseMarks parseSecond marksFault allZero explored grow closed next avoids delays absent followed bitRight bitsRight drawn finds powers digits applies replayOf stepsOf sizeFits walk stepFrom fire turnFits turnFree depthFrom faultOf headFault rangeFault topFault threadFault rulesFault above keyOf rightKey ruleFault rightFault symbolFault markFault freeFrom firstOf
 all-hold = tt
 
 -- Every case of the table has its claims.

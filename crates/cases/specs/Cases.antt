@@ -46,29 +46,29 @@ heldTwo bits = 0xC8 ∷ 0x83 ∷ 0x04 ∷ (marks bits ++ twoRules)
 unfoldable pub cases : List Case
 cases =
     -- model One
-    case (0x4B ∷ 0x02 ∷ 0x01 ∷ 0x01 ∷ oneRules) (Found 1 (0x00 ∷ 0x00 ∷ []) (given (0x27 ∷ []))) ∷
+    case (0x4B ∷ 0x02 ∷ 0x01 ∷ 0x01 ∷ oneRules) (Found 1 1 1 (0x00 ∷ 0x00 ∷ []) (given (0x27 ∷ []))) ∷
     -- model Two, and at K=1
-    case (0xC8 ∷ 0x03 ∷ twoRules) (Found 4 twoSchedule ungiven) ∷
+    case (0xC8 ∷ 0x03 ∷ twoRules) (Found 4 2 1 twoSchedule ungiven) ∷
     case (0xCA ∷ 0x01 ∷ 0x03 ∷ twoRules) (Clear (given (0x13 ∷ 0x06 ∷ 0x00 ∷ []))) ∷
     -- Two without A's first rule, at K=1, 2, 3
     case (0xCA ∷ 0x01 ∷ 0x03 ∷ 0x02 ∷ twoRest) (Clear ungiven) ∷
     case (0xC8 ∷ 0x03 ∷ 0x02 ∷ twoRest) (Clear ungiven) ∷
     case (0xCA ∷ 0x03 ∷ 0x03 ∷ 0x02 ∷ twoRest) (Clear ungiven) ∷
     -- the target is the start
-    case (0x08 ∷ 0x00 ∷ []) (Found 0 [] ungiven) ∷
+    case (0x08 ∷ 0x00 ∷ []) (Found 0 1 1 [] ungiven) ∷
     -- .. with A's top as the start has it, and with another
-    case (0x08 ∷ 0x80 ∷ 0x01 ∷ 0x00 ∷ []) (Found 0 [] ungiven) ∷
+    case (0x08 ∷ 0x80 ∷ 0x01 ∷ 0x00 ∷ []) (Found 0 1 1 [] ungiven) ∷
     case (0x08 ∷ 0x80 ∷ 0x01 ∷ 0x01 ∷ []) (Clear ungiven) ∷
     -- One with a top of A, whose stack its step empties, and with one of B: the lines stay
     case (0x4B ∷ 0x02 ∷ 0x01 ∷ 0x81 ∷ 0x01 ∷ 0x00 ∷ oneRules) (Clear (given (0x27 ∷ []))) ∷
-    case (0x4B ∷ 0x02 ∷ 0x01 ∷ 0x81 ∷ 0x02 ∷ 0x00 ∷ oneRules) (Found 1 (0x00 ∷ 0x00 ∷ []) (given (0x27 ∷ []))) ∷
+    case (0x4B ∷ 0x02 ∷ 0x01 ∷ 0x81 ∷ 0x02 ∷ 0x00 ∷ oneRules) (Found 1 1 1 (0x00 ∷ 0x00 ∷ []) (given (0x27 ∷ []))) ∷
     -- Two with the top 0 of A: it takes one more push
     case (0xC8 ∷ 0x83 ∷ 0x01 ∷ 0x00 ∷ twoRules)
-    (Found 5 (0x00 ∷ 0x00 ∷ 0x00 ∷ 0x00 ∷ 0x00 ∷ 0x01 ∷ 0x01 ∷ 0x00 ∷ 0x02 ∷ 0x02 ∷ []) ungiven) ∷
+    (Found 5 3 1 (0x00 ∷ 0x00 ∷ 0x00 ∷ 0x00 ∷ 0x00 ∷ 0x01 ∷ 0x01 ∷ 0x00 ∷ 0x02 ∷ 0x02 ∷ []) ungiven) ∷
     -- One with its rule held: the target is passed, but no turn may end there
     case (0x4B ∷ 0x02 ∷ 0x01 ∷ 0x81 ∷ 0x04 ∷ (marks 0x01 ++ oneRules)) (Clear (given (0x05 ∷ []))) ∷
     -- Two with A's first rule held, which is never its turn's last, and with its second, which always is
-    case (heldTwo 0x01) (Found 4 twoSchedule ungiven) ∷
+    case (heldTwo 0x01) (Found 4 2 1 twoSchedule ungiven) ∷
     case (heldTwo 0x02) (Clear ungiven) ∷
     -- schedules that leave a turn after a held step: at their end, for B's turn, for A's next turn, and for a rule that is not there;
     -- a turn number above 2K−1 comes first
@@ -98,7 +98,7 @@ cases =
     case (0x48 ∷ 0x80 ∷ 0x08 ∷ (marks 0x01 ++ oneRules)) (Refused 11) ∷
     case (0x08 ∷ 0x80 ∷ 0x04 ∷ (marks 0x01 ++ (0x00 ∷ []))) (Refused 11) ∷
     -- rules that ascend; one that stands twice, of A and of B, and two of Two's exchanged
-    case (0x48 ∷ 0x00 ∷ rising) (Found 0 [] ungiven) ∷
+    case (0x48 ∷ 0x00 ∷ rising) (Found 0 1 1 [] ungiven) ∷
     case (0x48 ∷ 0x00 ∷ oneTwice) (Refused 13) ∷
     case (0x88 ∷ 0x00 ∷ oneTwice) (Refused 13) ∷
     case (0xC8 ∷ 0x03 ∷ 0x02 ∷ 0x01 ∷ 0x00 ∷ 0x01 ∷ 0x06 ∷ 0x00 ∷ 0x00 ∷ 0x00 ∷ []) (Refused 13) ∷

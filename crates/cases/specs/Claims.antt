@@ -5,6 +5,7 @@ use mathlib.Core.List.{List, []}
 use mathlib.Core.Path.{_≡_}
 use Prim.Native.Nat.{ℕ}
 use lib.ListN.{length, replicate}
+use Rattle.model.specs.declared.Depths.{Depths}
 use Rattle.model.specs.declared.Model.{Model}
 use Rattle.model.specs.Results.{refused, accepted}
 use Rattle.model.specs.Runs.{Reaches}
@@ -21,12 +22,12 @@ pub data Table : Type 0 where
   ungiven : Table
   given : List ℕ → Table
 
--- What must come of a record: a refusal by its number, Clear, Found with its steps and the bytes of a schedule, or for the bytes of a
--- schedule the number by which replay refuses them.
+-- What must come of a record: a refusal by its number, Clear, Found with its steps, the depths of A and B and the bytes of a schedule, or
+-- for the bytes of a schedule the number by which replay refuses them.
 pub data Answer : Type 0 where
   Refused : ℕ → Answer
   Clear : Table → Answer
-  Found : ℕ → List ℕ → Table → Answer
+  Found : ℕ → ℕ → ℕ → List ℕ → Table → Answer
   Declined : List ℕ → ℕ → Answer
 
 -- A record, byte by byte, and what must come of it.
@@ -41,10 +42,10 @@ pub record Accepts (bytes : List ℕ) (Fact : Model → Type 0) : Type 0 where
   pub valid : Valid model
   pub holds : Fact model
 
--- Bytes are a schedule of n steps that reaches the target, and replay says so.
-abbrev pub Scheduled : Model → ℕ → List ℕ → Type 0
-Scheduled m n bytes =
-    Shown (Reaches m) n (λ ss. bytes ≡ bytesOf ss) × (replayOf m bytes ≡ replayed.Accepted (m .target) true)
+-- Bytes are a schedule of n steps that reaches the target, and replay says so, with these depths.
+abbrev pub Scheduled : Model → ℕ → Depths → List ℕ → Type 0
+Scheduled m n depths bytes =
+    Shown (Reaches m) n (λ ss. bytes ≡ bytesOf ss) × (replayOf m bytes ≡ replayed.Accepted (m .target) true depths)
 
 -- Where bytes are given, they are just as many as the line table of a model has, and a store of zeros comes to hold them.
 abbrev pub Lined : Model → Table → Type 0
@@ -55,7 +56,8 @@ Lined m (given store) = (length store ≡ bytesFor (m .g) (m .k)) × LineTable m
 abbrev pub ClaimsOf : List ℕ → Answer → Type 0
 ClaimsOf bytes (Refused n) = readOf bytes ≡ refused n
 ClaimsOf bytes (Clear t) = Accepts bytes (λ m. Judged m clear × Lined m t)
-ClaimsOf bytes (Found n schedule t) = Accepts bytes (λ m. Judged m (found n) × Scheduled m n schedule × Lined m t)
+ClaimsOf bytes (Found n a b schedule t) =
+    Accepts bytes (λ m. Judged m (found n) × Scheduled m n (record { a = a; b = b }) schedule × Lined m t)
 ClaimsOf bytes (Declined schedule n) = Accepts bytes (λ m. replayOf m schedule ≡ replayed.Refused n)
 
 -- The claims of a case.

@@ -1,5 +1,5 @@
 -- What a call answers of a valid model is in range: it is refused by 7 to 10 or by 12, a record has at most 668 bytes, a schedule at
--- most 4,095 steps, a walk stays in the states below g, and a page has 73 bytes a step and 73 more.
+-- most 4,095 steps and depths of one more, a walk stays in the states below g, and a page has 73 bytes a step and 73 more.
 use mathlib.Core.Bool.{Bool, true, false, _&&_}
 use mathlib.Core.List.{List, [], _∷_}
 use mathlib.Core.Path.{_≡_, refl, sym, _∙_}
@@ -7,8 +7,11 @@ use Prim.Native.Nat.{ℕ, zero, suc, _≤_, _<_}
 use native.Mathlib.Omega.{arith}
 use lib.Dec.{leb}
 use lib.ListN.{length}
+use Rattle.model.specs.declared.Depths.{Depths}
 use Rattle.model.specs.declared.Model.{Model}
-use Rattle.model.specs.Schedules.{stepsOf, mostBytes}
+use Rattle.model.specs.declared.Shared.{Shared}
+use Rattle.model.specs.declared.ThreadId.the-variants.{A, B}
+use Rattle.model.specs.Schedules.{stepsOf, mostBytes, mostSteps, Stored}
 use Rattle.model.specs.Results.{accepted, unless, refuse, firstOf}
 use Rattle.model.specs.Tables.{tableFits}
 use Rattle.model.specs.Valid.{Valid, storeRefusal}
@@ -21,7 +24,8 @@ use Rattle.record.specs.declared.Written.the-variants as written
 use Rattle.reach.specs.Answer.{answerOf, outcomeOf}
 use Rattle.judge.specs.declared.Judgement.{Judgement}
 use Rattle.judge.specs.declared.Judgement.the-variants as judgement
-use Rattle.judge.specs.Answer.{refusalOf, Answers}
+use Rattle.judge.specs.Answer.{refusalOf, Answers, LeavesSchedule, Witness}
+use Rattle.depths.proofs.Climbing.{legal, depth-most}
 use Rattle.replay.specs.declared.Replayed.{Replayed}
 use Rattle.replay.specs.declared.Replayed.the-variants as replayed
 use Rattle.replay.specs.Replay.{replayOf}
@@ -31,7 +35,7 @@ use Rattle.page.specs.declared.Paged.the-variants as paging
 use Rattle.page.specs.Answer.{replayRefusal, pageRefusal, pagedBy, pagedOf}
 use Rattle.page.specs.Page.{pageOf}
 use Rattle.page.proofs.Pages.{pageable, page-length}
-use Rattle.ffi.specs.Replies.{ReplyFits, writeReply, linesReply, judgeReply, replayReply, pageReply}
+use Rattle.ffi.specs.Replies.{FieldsFit, ReplyFits, writeReply, linesReply, judgeReply, replayReply, pageReply}
 
 -- A valid model is refused by 7 alone, where a store is too small.
 seven : (m : Model) (room : Bool) → Valid m → storeRefusal m room ≤ 7
@@ -65,25 +69,46 @@ lines-range m size v = go (storeRefusal m (tableFits m size)) (seven m (tableFit
     go zero h = tt
     go (suc n) h = (omega arith, omega arith)
 
--- What the judge answers: the refusal, or steps that a schedule may have.
-pub judge-range : (m : Model) (lines schedule : ℕ) (j : Judgement) → Valid m → Answers m (refusalOf m lines schedule) j
-    → ReplyFits (judgeReply j)
+-- A count of steps fits beside the depths of a schedule that stands in a store ..
+pub found-fits : {m : Model} {n x : ℕ} {d : Depths} {old new : List ℕ} → Valid m → x ≤ 4096 → n ≤ mostSteps
+    → Stored (Witness m d) n 0 old new → FieldsFit x d
+found-fits {m} v low h s =
+    let known = legal (valid-fits m .0 v) (s .run .reaches .leads .walked) in
+    rw (s .run .deep) (record {
+      first = omega arith;
+      a = omega (arith, depth-most A known, s .count);
+      b = omega (arith, depth-most B known, s .count);
+    })
+
+-- .. and so do a state and depths that replay gives.
+last-fits : (m : Model) {q : ℕ} {d : Depths} → Valid m → (q < m .g) × (d .a ≤ 4096) × (d .b ≤ 4096) → FieldsFit q d
+last-fits m v h =
+    record { first = omega (arith, h .0, valid-fits m .0 v .g); a = omega (arith, h .1); b = omega (arith, h .2) }
+
+-- What the judge answers: the refusal, or steps that a schedule may have, with depths of at most one more.
+pub judge-range : (m : Model) (lines schedule : ℕ) (j : Judgement) (old new : List ℕ) → Valid m
+    → Answers m (refusalOf m lines schedule) j → LeavesSchedule m j old new → ReplyFits (judgeReply j)
 unfolding refusalOf
-judge-range m lines schedule judgement.Clear v a = tt
-judge-range m lines schedule judgement.Long v a = tt
-judge-range m lines schedule (judgement.Found n) v a = omega (arith, a .1 .0)
-judge-range m lines schedule (judgement.Refused n) v a =
+judge-range m lines schedule judgement.Clear old new v a w = tt
+judge-range m lines schedule judgement.Long old new v a w = tt
+judge-range m lines schedule (judgement.Found n depths) old new v a w = found-fits v (omega (arith, a .1 .0)) (a .1 .0) w
+judge-range m lines schedule (judgement.Refused n) old new v a w =
     let low : refusalOf m lines schedule ≤ 7 = seven m (tableFits m lines && leb mostBytes schedule) v in
     (omega (arith, a .0, a .1), omega (arith, a .1, low))
 
--- What replay answers: the refusal, or a state below g.
+-- What replay answers: the refusal, or a state below g and depths of at most 4,096.
 pub replay-range : (m : Model) (bytes : List ℕ) → Valid m → ReplyFits (replayReply (replayOf m bytes))
 replay-range m bytes v = go (replayOf m bytes) (replay-ends m bytes v)
   where
     go : (r : Replayed) → Ends (m .g) r → ReplyFits (replayReply r)
-    go (replayed.Accepted q true) h = omega (arith, valid-fits m .0 v .g)
-    go (replayed.Accepted q false) h = omega (arith, valid-fits m .0 v .g)
+    go (replayed.Accepted q true d) h = last-fits m v h
+    go (replayed.Accepted q false d) h = last-fits m v h
     go (replayed.Refused n) h = (h .0, omega (arith, h .1))
+
+-- So what it carries where it accepts fits in three fields.
+pub replay-fits : (m : Model) (bytes : List ℕ) {r : Replayed} {q : Shared} {reached : Bool} {d : Depths} → Valid m
+    → r ≡ replayOf m bytes → r ≡ replayed.Accepted q reached d → FieldsFit (q .0) d
+replay-fits m bytes v e f = last-fits m v (rw (sym e ∙ f) at (replay-ends m bytes v))
 
 -- What the call that makes a page answers: the refusal, or a length of at most 299,008.
 pub page-range : (m : Model) (l : List ℕ) (size : ℕ) → Valid m → ReplyFits (pageReply (pagedOf m l size))
@@ -92,8 +117,8 @@ page-range m l size v = go (replayOf m l) refl (replay-ends m l v) (leb (length 
   where
     go : (r : Replayed) → replayOf m l ≡ r → Ends (m .g) r → (b : Bool)
         → ReplyFits (pageReply (pagedBy (firstOf (replayRefusal r ∷ refuse 7 b ∷ [])) (pageOf m (stepsOf l))))
-    go (replayed.Accepted q reached) e h true = omega (arith, page-length m l e, pageable m l e .most)
-    go (replayed.Accepted q reached) e h false = (omega arith, omega arith)
+    go (replayed.Accepted q reached d) e h true = omega (arith, page-length m l e, pageable m l e .most)
+    go (replayed.Accepted q reached d) e h false = (omega arith, omega arith)
     go (replayed.Refused zero) e h b = absurd (omega (arith, h .0))
     go (replayed.Refused (suc n)) e h b = (omega arith, omega (arith, h .1))
 

@@ -63,7 +63,7 @@ pub answered : {m : Model} {lines linesAfter schedule scheduleAfter : List ℕ} 
 answered {j = j} v e told number =
     record {
       judgement = j;
-      says = says judgeReply (sym e) (judge-range _ _ _ j v (told .0)) number;
+      says = says judgeReply (sym e) (judge-range _ _ _ j _ _ v (told .0) (told .1 .1)) number;
       right = told .0;
       table = told .1 .0;
       witness = told .1 .1;

@@ -1,11 +1,15 @@
 -- A number tells its reply. All that stands above the kind is a multiple of 65,536, so the low byte is the kind; and what stands above
 -- the first field is one again of its quotient, so what is left of it is the field.
+use mathlib.Core.Bool.{Bool, true, false}
 use mathlib.Core.Path.{_≡_, refl, ap, _∙_}
 use Prim.Native.Nat.{ℕ, _+_, _*_, _/_, _%_, _≤_, _<_}
 use native.Mathlib.Omega.{arith}
 use borrow.Author.Tests.{ne-eqb}
+use Rattle.model.specs.declared.Depths.{Depths}
+use Rattle.model.specs.declared.Shared.{Shared}
+use Rattle.replay.specs.declared.Replayed.the-variants as replayed
 use Rattle.ffi.specs.Replies.{Reply, refused, done, written, clear, long, found, stopped, reached, taken, none, paged}
-use Rattle.ffi.specs.Replies.{packed, numberOf, replyBy, replyOf, ReplyFits, Says}
+use Rattle.ffi.specs.Replies.{packed, numberOf, replyBy, replyOf, FieldsFit, ReplyFits, Says, replayReply, endKind}
 
 -- The low byte is the kind ..
 kind-told : (kind x y z : ℕ) → kind < 256 → packed kind x y z % 256 ≡ kind
@@ -23,15 +27,39 @@ long-told kind x z h l =
     let above : packed kind x 0 z / 65536 ≡ x + 4294967296 * z = omega arith in
     rw above (omega arith)
 
+-- Bits 32 to 47 are the second field, and those above them the third.
+second-told : (kind x y z : ℕ) → kind < 256 → x < 65536 → y < 65536 → packed kind x y z / 4294967296 % 65536 ≡ y
+second-told kind x y z h l k =
+    let above : packed kind x y z / 4294967296 ≡ y + 65536 * z = omega arith in
+    rw above (omega arith)
+
+third-told : (kind x y z : ℕ) → kind < 256 → x < 65536 → y < 65536 → z < 65536
+    → packed kind x y z / 281474976710656 % 65536 ≡ z
+third-told kind x y z h l k j =
+    let above : packed kind x y z / 281474976710656 ≡ z = omega arith in
+    rw above (omega arith)
+
 -- All at once, for what stands in a reply.
-parts-told : (kind x : ℕ) → kind < 256 → x < 65536 → replyOf (packed kind x 0 0) ≡ replyBy kind x x
-parts-told kind x h l =
-    rw (kind-told kind x 0 0 h, field-told kind x 0 0 h l, long-told kind x 0 h (omega arith))
+parts-told : (kind x : ℕ) (d : Depths) → kind < 256 → FieldsFit x d
+    → replyOf (packed kind x (d .a) (d .b)) ≡ replyBy kind x d (packed kind x (d .a) (d .b) / 65536 % 4294967296)
+parts-told kind x d h f =
+    rw (
+      kind-told kind x (d .a) (d .b) h,
+      field-told kind x (d .a) (d .b) h (f .first),
+      second-told kind x (d .a) (d .b) h (f .first) (f .a),
+      third-told kind x (d .a) (d .b) h (f .first) (f .a) (f .b),
+    )
+
+-- The same for a reply with one field.
+field-alone : (kind x : ℕ) → kind < 256 → x < 65536
+    → replyOf (packed kind x 0 0) ≡ replyBy kind x (record { a = 0; b = 0 }) (packed kind x 0 0 / 65536 % 4294967296)
+field-alone kind x h l =
+    parts-told kind x (record { a = 0; b = 0 }) h (record { first = l; a = omega arith; b = omega arith })
 
 -- A refusal's number is the kind of no other reply.
-refusal-told : (n : ℕ) → 1 ≤ n → n ≤ 31 → replyBy n 0 0 ≡ refused n
+refusal-told : (n : ℕ) (d : Depths) (both : ℕ) → 1 ≤ n → n ≤ 31 → replyBy n 0 d both ≡ refused n
 unfolding replyBy
-refusal-told n h l = rw (
+refusal-told n d both h l = rw (
   ne-eqb n 0 (λ e. omega arith),
   ne-eqb n 32 (λ e. omega arith),
   ne-eqb n 33 (λ e. omega arith),
@@ -47,15 +75,15 @@ refusal-told n h l = rw (
 -- Every reply in range is told by its number.
 pub reply-told : (a : Reply) → ReplyFits a → replyOf (numberOf a) ≡ a
 unfolding replyBy
-reply-told (refused n) h = parts-told n 0 (omega arith) (omega arith) ∙ refusal-told n (h .0) (h .1)
+reply-told (refused n) h = field-alone n 0 (omega arith) (omega arith) ∙ refusal-told n _ _ (h .0) (h .1)
 reply-told done h = refl
-reply-told (written n) h = parts-told 32 n (omega arith) h
+reply-told (written n) h = field-alone 32 n (omega arith) h
 reply-told clear h = refl
 reply-told long h = refl
-reply-told (found n) h = parts-told 35 n (omega arith) h
-reply-told (stopped q) h = parts-told 36 q (omega arith) h
-reply-told (reached q) h = parts-told 37 q (omega arith) h
-reply-told (taken n) h = parts-told 38 n (omega arith) h
+reply-told (found n d) h = parts-told 35 n d (omega arith) h
+reply-told (stopped q d) h = parts-told 36 q d (omega arith) h
+reply-told (reached q d) h = parts-told 37 q d (omega arith) h
+reply-told (taken n) h = field-alone 38 n (omega arith) h
 reply-told none h = refl
 reply-told (paged n) h = rw (kind-told 40 n 0 0 (omega arith), long-told 40 n 0 (omega arith) h)
 
@@ -77,3 +105,15 @@ says-refused n h = says {a = n} refused refl h (alone n)
 pub says-done : Says 0 done
 unfolding replyBy
 says-done = record { number = refl; told = refl }
+
+-- A replay that is accepted has a kind that fits, and the number of that kind is the reply's.
+pub end-low : (reached : Bool) {kind : ℕ} → kind ≡ endKind reached → kind < 256
+unfolding endKind
+end-low true e = omega arith
+end-low false e = omega arith
+
+pub end-number : (q : Shared) (reached : Bool) (d : Depths) {kind r : ℕ} → kind ≡ endKind reached
+    → r ≡ packed kind (q .0) (d .a) (d .b) → r ≡ numberOf (replayReply (replayed.Accepted q reached d))
+unfolding endKind
+end-number q true d e p = rw e at p
+end-number q false d e p = rw e at p

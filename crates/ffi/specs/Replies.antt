@@ -1,8 +1,9 @@
 -- What a call answers, the number that says it where the call is made from another language, and what that number tells.
-use mathlib.Core.Bool.{cond, true, false}
+use mathlib.Core.Bool.{Bool, cond, true, false}
 use mathlib.Core.Path.{_≡_}
 use Prim.Native.Nat.{ℕ, _+_, _*_, _/_, _%_, _≤_, _<_}
 use lib.Dec.{eqb}
+use Rattle.model.specs.declared.Depths.{Depths}
 use Rattle.judge.specs.declared.Judgement.{Judgement}
 use Rattle.judge.specs.declared.Judgement.the-variants as judgement
 use Rattle.page.specs.declared.Paged.{Paged}
@@ -17,15 +18,15 @@ use Rattle.tray.specs.declared.FirstRecord.{FirstRecord}
 use Rattle.tray.specs.declared.FirstRecord.the-variants as firstRecord
 
 -- Everything that a call answers: a refusal's number; done; the length of a record that was written; the three verdicts, Found with
--- its steps; the last shared state of a replay that stopped elsewhere, or that reached the target; the length of the record taken from
--- the front of a tray, or that there is none; the length of a page.
+-- its steps and depths; the last shared state and the depths of a replay that stopped elsewhere, or that reached the target; the length of
+-- the record taken from the front of a tray, or that there is none; the length of a page.
 pub data Reply : Type 0 where
   refused : ℕ → Reply
   done : Reply
   written : ℕ → Reply
   clear long : Reply
-  found : ℕ → Reply
-  stopped reached : ℕ → Reply
+  found : ℕ → Depths → Reply
+  stopped reached : ℕ → Depths → Reply
   taken : ℕ → Reply
   none : Reply
   paged : ℕ → Reply
@@ -34,37 +35,46 @@ pub data Reply : Type 0 where
 abbrev pub packed : ℕ → ℕ → ℕ → ℕ → ℕ
 packed kind x y z = kind + 65536 * (x + 65536 * (y + 65536 * z))
 
--- The number of a reply: its kind, which is a refusal's own number, 0, or from 32 on, and what it carries in the first field; a page's
--- length reaches into the second.
+-- The number of a reply: its kind, which is a refusal's own number, 0, or from 32 on, and what it carries in the first field; depths stand
+-- in the second, A's, and the third, B's, and a page's length reaches into the second.
 abbrev pub numberOf : Reply → ℕ
 numberOf (refused n) = packed n 0 0 0
 numberOf done = packed 0 0 0 0
 numberOf (written n) = packed 32 n 0 0
 numberOf clear = packed 33 0 0 0
 numberOf long = packed 34 0 0 0
-numberOf (found n) = packed 35 n 0 0
-numberOf (stopped q) = packed 36 q 0 0
-numberOf (reached q) = packed 37 q 0 0
+numberOf (found n d) = packed 35 n (d .a) (d .b)
+numberOf (stopped q d) = packed 36 q (d .a) (d .b)
+numberOf (reached q d) = packed 37 q (d .a) (d .b)
 numberOf (taken n) = packed 38 n 0 0
 numberOf none = packed 39 0 0 0
 numberOf (paged n) = packed 40 n 0 0
 
--- The reply of a kind, a first field, and the first two fields as one; a kind that no other reply has is a refusal's number.
-unfoldable pub replyBy : ℕ → ℕ → ℕ → Reply
-replyBy kind x both =
+-- The reply of a kind, a first field, the two others as depths, and the first two as one; a kind that no other reply has is a refusal's
+-- number.
+unfoldable pub replyBy : ℕ → ℕ → Depths → ℕ → Reply
+replyBy kind x d both =
     cond (eqb kind 0) done
     (cond (eqb kind 32) (written x)
     (cond (eqb kind 33) clear
     (cond (eqb kind 34) long
-    (cond (eqb kind 35) (found x)
-    (cond (eqb kind 36) (stopped x)
-    (cond (eqb kind 37) (reached x)
+    (cond (eqb kind 35) (found x d)
+    (cond (eqb kind 36) (stopped x d)
+    (cond (eqb kind 37) (reached x d)
     (cond (eqb kind 38) (taken x)
     (cond (eqb kind 39) none (cond (eqb kind 40) (paged both) (refused kind))))))))))
 
 -- The reply that a number tells, by its low byte and its fields.
 abbrev pub replyOf : ℕ → Reply
-replyOf r = replyBy (r % 256) (r / 65536 % 65536) (r / 65536 % 4294967296)
+replyOf r =
+    replyBy (r % 256) (r / 65536 % 65536) (record { a = r / 4294967296 % 65536; b = r / 281474976710656 % 65536 })
+    (r / 65536 % 4294967296)
+
+-- What stands in three fields fits in their 16 bits.
+pub record FieldsFit (x : ℕ) (d : Depths) : Type 0 where
+  pub first : x < 65536
+  pub a : d .a < 65536
+  pub b : d .b < 65536
 
 -- A reply whose number tells it: refusals are 1 to 31, and what is carried fits in 16 bits, or a page's length in 32.
 abbrev pub ReplyFits : Reply → Type 0
@@ -73,9 +83,9 @@ ReplyFits done = Unit {0}
 ReplyFits (written n) = n < 65536
 ReplyFits clear = Unit {0}
 ReplyFits long = Unit {0}
-ReplyFits (found n) = n < 65536
-ReplyFits (stopped q) = q < 65536
-ReplyFits (reached q) = q < 65536
+ReplyFits (found n d) = FieldsFit n d
+ReplyFits (stopped q d) = FieldsFit q d
+ReplyFits (reached q d) = FieldsFit q d
 ReplyFits (taken n) = n < 65536
 ReplyFits none = Unit {0}
 ReplyFits (paged n) = n < 4294967296
@@ -99,14 +109,19 @@ linesReply (outcome.Refused n) = refused n
 abbrev pub judgeReply : Judgement → Reply
 judgeReply judgement.Clear = clear
 judgeReply judgement.Long = long
-judgeReply (judgement.Found n) = found n
+judgeReply (judgement.Found n depths) = found n depths
 judgeReply (judgement.Refused n) = refused n
 
 -- The reply to a call that replays a schedule.
 abbrev pub replayReply : Replayed → Reply
-replayReply (replayed.Accepted shared true) = reached (shared .0)
-replayReply (replayed.Accepted shared false) = stopped (shared .0)
+replayReply (replayed.Accepted shared true depths) = reached (shared .0) depths
+replayReply (replayed.Accepted shared false depths) = stopped (shared .0) depths
 replayReply (replayed.Refused n) = refused n
+
+-- The kind of that reply where replay accepts, by whether the run ends at the target.
+unfoldable pub endKind : Bool → ℕ
+endKind true = 37
+endKind false = 36
 
 -- The reply to a call that makes a page.
 abbrev pub pageReply : Paged → Reply

@@ -2,10 +2,11 @@
 ghost use mathlib.Core.Path.{_≡_};
 ghost use Prim.Native.Nat.{_<_};
 ghost use Rattle.ffi.specs.Calls.{ReadCall, WriteCall, MergeCall, SecondCall, MergedCall, LinesCall, JudgeCall, ReplayCall, PageCall, FirstCall};
-ghost use Rattle.ffi.specs.Replies.{packed};
+ghost use Rattle.ffi.specs.Replies.{packed, FieldsFit, endKind};
 ghost use Rattle.model.specs.Valid.{Valid};
 use judge::Judgement;
 use merge::Merged;
+use model::Depths;
 use model::Model;
 use page::Paged;
 use reach::Outcome;
@@ -122,7 +123,7 @@ pub extern "C" fn turncheck_lines(bytes: &[u8], lines: &mut [u8]) -> u64
     }
 }
 
-// Reads a record and judges its model: the verdict, Found with its steps.
+// Reads a record and judges its model: the verdict, Found with its steps and depths.
 #[no_mangle]
 pub extern "C" fn turncheck_judge(bytes: &[u8], lines: &mut [u8], schedule: &mut [u8]) -> u64
     ensures { λ r. ⌜ JudgeCall (now (bytes .entry)) r (now (lines .entry)) (now (lines .exit))
@@ -134,14 +135,14 @@ pub extern "C" fn turncheck_judge(bytes: &[u8], lines: &mut [u8], schedule: &mut
         Answer::Accepted => match judge::judge(reading.model, lines, schedule) {
             Judgement::Clear => CLEAR,
             Judgement::Long => LONG,
-            Judgement::Found(n) => with_field(FOUND, n),
+            Judgement::Found(n, depths) => with_depths(FOUND, n, depths),
             Judgement::Refused(n) => n as u64,
         },
         Answer::Refused(n) => n as u64,
     }
 }
 
-// Reads a record and replays a schedule of its model: the last shared state, by whether the run ends at the target.
+// Reads a record and replays a schedule of its model: the last shared state and the depths, by whether the run ends at the target.
 #[no_mangle]
 pub extern "C" fn turncheck_replay(bytes: &[u8], schedule: &[u8]) -> u64
     ensures { λ r. ⌜ ReplayCall (now (bytes .entry)) (now (schedule .entry)) r ⌝ }
@@ -150,17 +151,20 @@ pub extern "C" fn turncheck_replay(bytes: &[u8], schedule: &[u8]) -> u64
     let answer = reading.answer;
     match answer {
         Answer::Accepted => match replay::replay(reading.model, schedule) {
-            Replayed::Accepted(shared, reached) => {
-                if reached {
-                    with_field(REACHED, shared.0 as u64)
-                } else {
-                    with_field(STOPPED, shared.0 as u64)
-                }
+            Replayed::Accepted(shared, reached, depths) => {
+                with_depths(end_kind(reached), shared.0 as u64, depths)
             }
             Replayed::Refused(n) => n as u64,
         },
         Answer::Refused(n) => n as u64,
     }
+}
+
+// The kind of a replay that is accepted.
+fn end_kind(reached: bool) -> u64
+    ensures { λ r. ⌜ r ≡ endKind reached ⌝ }
+{
+    if reached { REACHED } else { STOPPED }
 }
 
 // Reads a record and puts the page of a schedule of its model at the front of the store: paged, with its length.
@@ -199,4 +203,12 @@ fn with_field(kind: u64, x: u64) -> u64
     ensures { λ r. ⌜ r ≡ packed kind x 0 0 ⌝ }
 {
     kind + 65536 * x
+}
+
+// The number of a kind that carries x in its first field, and depths in the second and the third.
+fn with_depths(kind: u64, x: u64, depths: Depths) -> u64
+    requires { ⌜ kind < 256 ⌝ ∗ ⌜ FieldsFit x depths ⌝ }
+    ensures { λ r. ⌜ r ≡ packed kind x (depths .a) (depths .b) ⌝ }
+{
+    kind + 65536 * (x + 65536 * (depths.a as u64 + 65536 * depths.b as u64))
 }

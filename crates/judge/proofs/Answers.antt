@@ -40,5 +40,5 @@ module _ (m : Model) (lines schedule : ℕ) {number : ℕ} (e : number ≡ store
 pub filled : (m : Model) (r : Judgement) {old new : List ℕ} → Answers m 0 r → LineTable m old new → LeavesLines m r old new
 filled m Clear a t = t
 filled m Long a t = t
-filled m (Found n) a t = t
+filled m (Found n depths) a t = t
 filled m (Refused n) a t = absurd (omega (arith, a .0))

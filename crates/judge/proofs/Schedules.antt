@@ -7,17 +7,19 @@ use Prim.Native.Nat.{ℕ, _+_, _*_, _^_, _≤_, _<_}
 use native.Mathlib.Omega.{arith}
 use lib.Dec.{leb, leb→le}
 use lib.ListN.{length, take, getD}
+use Rattle.model.specs.declared.Depths.{Depths}
 use Rattle.model.specs.declared.Model.{Model}
+use Rattle.model.specs.Depths.{depthsOf}
 use Rattle.model.specs.Fits.{Fits}
 use Rattle.model.specs.Lines.{digits}
 use Rattle.model.specs.Runs.{Reaches, EndsUnder}
-use Rattle.model.specs.Schedules.{Stored, mostSteps, mostBytes}
+use Rattle.model.specs.Schedules.{stepsOf, Stored, mostSteps, mostBytes}
 use Rattle.model.specs.Tables.{tableFits}
 use Rattle.model.specs.Valid.{Valid}
 use Rattle.model.specs.Walk.{atTarget}
 use Rattle.model.specs.declared.ThreadId.the-variants.{A, B}
 use Rattle.model.proofs.Granted.{granted}
-use Rattle.model.proofs.Stores.{stored-front}
+use Rattle.model.proofs.Stores.{stored-front, stored-steps}
 use Rattle.model.proofs.Tests.{both, passed}
 use Rattle.costs.specs.Cost.{TargetCosts}
 use Rattle.costs.proofs.Digits.{power-small}
@@ -25,10 +27,12 @@ use Rattle.draw.proofs.Marks.{line-cost}
 use Rattle.replay.specs.declared.Replayed.the-variants.{Accepted}
 use Rattle.replay.specs.Replay.{replayOf}
 use Rattle.replay.proofs.Accepts.{accepts}
+use Rattle.depths.specs.Heights.{Legal}
+use Rattle.depths.proofs.Climbing.{legal}
 use Rattle.witness.specs.Chosen.{Chosen}
 use Rattle.judge.specs.declared.Choice.{Choice}
 use Rattle.judge.specs.declared.Judgement.the-variants.{Found}
-use Rattle.judge.specs.Answer.{refusalOf, Answers}
+use Rattle.judge.specs.Answer.{refusalOf, Answers, Witness}
 use Rattle.judge.specs.Best.{Best}
 use Rattle.costs.specs.Lanes.{fullLines}
 use Rattle.judge.proofs.Reaching.{target-met, run-reaches}
@@ -69,26 +73,43 @@ module _ {m : Model} (f : Fits m) {a b : List ℕ} {c : Choice}
         shown = w .shown;
       }
 
--- Replay accepts a schedule that stands in a store with room for it, and says that it reaches the target.
-pub replayed : (m : Model) {n : ℕ} {old new : List ℕ} → Valid m → n ≤ mostSteps → 2 * n ≤ length old
-    → Stored (Reaches m) n 0 old new → replayOf m (take (2 * n) new) ≡ Accepted (m .target) true
-replayed m {n} {old} {new} v most room s =
-    accepts m (take (2 * n) new) (m .target) true .1 (record {
+-- What stands in a store with room for it is legal, and its depths are those of its steps.
+module _ {m : Model} {n : ℕ} {old new : List ℕ} (s : Stored (Reaches m) n 0 old new) (room : 2 * n ≤ length old) where
+  pub stored-legal : Fits m → Legal m (stepsOf (take (2 * n) new))
+  stored-legal f = rw (stored-steps s room) (legal f (s .run .leads .walked))
+
+  pub stored-witness : {depths : Depths} → depths ≡ depthsOf m (stepsOf (take (2 * n) new)) → Stored (Witness m depths) n 0 old new
+  stored-witness e =
+      record {
+        steps = s .steps;
+        run = record { reaches = s .run; deep = rw (stored-steps s room) at e };
+        count = s .count;
+        shown = s .shown;
+      }
+
+-- Replay accepts a schedule that stands in a store with room for it, and says that it reaches the target, and how deep it went.
+pub replayed : (m : Model) {n : ℕ} {depths : Depths} {old new : List ℕ} → Valid m → n ≤ mostSteps → 2 * n ≤ length old
+    → Stored (Witness m depths) n 0 old new → replayOf m (take (2 * n) new) ≡ Accepted (m .target) true depths
+replayed m {n} {depths} {old} {new} v most room s =
+    let reaches = s .run .reaches in
+    accepts m (take (2 * n) new) (m .target) true depths .1 (record {
       valid = v;
       steps = s .steps;
       written = stored-front s room;
       most = omega (arith, s .count);
-      stacks = s .run .stacks;
-      leads = rw (target-met (s .run) .0) at (s .run .leads);
-      target = sym (passed (atTarget m (m .target .0) (s .run .stacks)) (rw (target-met (s .run) .0) at (s .run .target)));
+      stacks = reaches .stacks;
+      leads = rw (target-met reaches .0) at (reaches .leads);
+      target = sym (passed (atTarget m (m .target .0) (reaches .stacks)) (rw (target-met reaches .0) at (reaches .target)));
+      deep = s .run .deep;
     })
 
--- Where the judge says Found n, replay accepts the first 2n bytes of the schedule store, and says that they reach the target.
-pub found-replayed : (m : Model) (lines : ℕ) {n : ℕ} {old new : List ℕ}
-    → Answers m (refusalOf m lines (length old)) (Found n) → Stored (Reaches m) n 0 old new
-    → replayOf m (take (2 * n) new) ≡ Accepted (m .target) true
+-- Where the judge says Found n, replay accepts the first 2n bytes of the schedule store, and says that they reach the target, as deep as
+-- the judge says.
+pub found-replayed : (m : Model) (lines : ℕ) {n : ℕ} {depths : Depths} {old new : List ℕ}
+    → Answers m (refusalOf m lines (length old)) (Found n depths) → Stored (Witness m depths) n 0 old new
+    → replayOf m (take (2 * n) new) ≡ Accepted (m .target) true depths
 unfolding refusalOf
-found-replayed m lines {n} {old} a s =
+found-replayed m lines {n} {depths} {old} a s =
     let known = granted m (tableFits m lines && leb mostBytes (length old)) .0 (a .0) in
     let room = leb→le mostBytes (length old) (both (tableFits m lines) (leb mostBytes (length old)) .0 (known .1) .1) in
     replayed m (known .0) (a .1 .0) (omega (arith, room, a .1 .0)) s

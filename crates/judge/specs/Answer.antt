@@ -4,12 +4,15 @@ use mathlib.Core.List.{List}
 use mathlib.Core.Path.{_≡_}
 use Prim.Native.Nat.{ℕ, _<_}
 use lib.Dec.{leb}
+use Rattle.model.specs.declared.Depths.{Depths}
 use Rattle.model.specs.declared.Model.{Model}
+use Rattle.model.specs.Depths.{depthsOf}
 use Rattle.model.specs.Runs.{Reaches}
 use Rattle.model.specs.Schedules.{Stored, mostBytes}
 use Rattle.model.specs.Tables.{tableFits, LineTable}
 use Rattle.model.specs.Valid.{storeRefusal}
 use Rattle.model.specs.Verdict.{clear, long, found, Judged}
+use Rattle.model.specs.Walk.{Step}
 use Rattle.judge.specs.declared.Judgement.{Judgement}
 use Rattle.judge.specs.declared.Judgement.the-variants.{Clear, Long, Found, Refused}
 
@@ -18,24 +21,30 @@ use Rattle.judge.specs.declared.Judgement.the-variants.{Clear, Long, Fou
 unfoldable pub refusalOf : Model → ℕ → ℕ → ℕ
 refusalOf m lines schedule = storeRefusal m (tableFits m lines && leb mostBytes schedule)
 
--- An answer is right where n is the refusal due: that number alone, or where there is none a verdict that is true of all runs.
+-- An answer is right where n is the refusal due: that number alone, or where there is none a verdict that is true of all runs. The depths of
+-- Found are those of the schedule in the store, below.
 abbrev pub Answers : Model → ℕ → Judgement → Type 0
 Answers m n Clear = (n ≡ 0) × Judged m clear
 Answers m n Long = (n ≡ 0) × Judged m long
-Answers m n (Found s) = (n ≡ 0) × Judged m (found s)
+Answers m n (Found s depths) = (n ≡ 0) × Judged m (found s)
 Answers m n (Refused r) = (0 < n) × (r ≡ n)
 
 -- What the line store holds after an answer: the model's line table, or what it held.
 abbrev pub LeavesLines : Model → Judgement → List ℕ → List ℕ → Type 0
 LeavesLines m Clear old new = LineTable m old new
 LeavesLines m Long old new = LineTable m old new
-LeavesLines m (Found s) old new = LineTable m old new
+LeavesLines m (Found s depths) old new = LineTable m old new
 LeavesLines m (Refused r) old new = new ≡ old
 
--- What the schedule store holds after an answer: for Found a schedule of so many steps that reaches the target, at its front, with
--- the bytes beyond as they were; or what it held.
+-- A schedule that reaches the target, with the depths of the stacks in its run.
+pub record Witness (m : Model) (depths : Depths) (ss : List Step) : Type 0 where
+  pub reaches : Reaches m ss
+  pub deep : depths ≡ depthsOf m ss
+
+-- What the schedule store holds after an answer: for Found a schedule of so many steps that reaches the target, just so deep, at its
+-- front, with the bytes beyond as they were; or what it held.
 abbrev pub LeavesSchedule : Model → Judgement → List ℕ → List ℕ → Type 0
 LeavesSchedule m Clear old new = new ≡ old
 LeavesSchedule m Long old new = new ≡ old
-LeavesSchedule m (Found s) old new = Stored (Reaches m) s 0 old new
+LeavesSchedule m (Found s depths) old new = Stored (Witness m depths) s 0 old new
 LeavesSchedule m (Refused r) old new = new ≡ old

@@ -15,6 +15,8 @@ ghost use Rattle.judge.specs.Best.{Best};
 mod choose;
 
 use costs::LINES;
+use depths::depths;
+use model::Depths;
 use model::MOST_BYTES;
 use model::Model;
 use model::Top;
@@ -22,11 +24,12 @@ use summary::CAP;
 use summary::cells::SIZE;
 use summary::cells::SMALL;
 
-// A verdict, Found with the number of steps of a shortest run; or a refusal's number.
+// A verdict, Found with the number of steps of a shortest run and the depths of the stacks in the one that was written; or a refusal's
+// number.
 pub enum Judgement {
     Clear,
     Long,
-    Found(u64),
+    Found(u64, Depths),
     Refused(u8),
 }
 
@@ -185,7 +188,7 @@ fn search(m: Model, a: &[u16], b: &[u16], schedule: &mut [u8]) -> Judgement
     told(m, best, a, b, schedule)
 }
 
-// The verdict that the best line stands for, and its schedule where it is short enough.
+// The verdict that the best line stands for, and its schedule where it is short enough. The depths are read off what was written.
 fn told(m: Model, best: Choice, a: &[u16], b: &[u16], schedule: &mut [u8]) -> Judgement
     requires { ⌜ Fits m ⌝ ∗ ⌜ (fullLines ≤ length (now a)) × (fullLines ≤ length (now b)) × (mostBytes ≤ length (now schedule)) ⌝
         ∗ ⌜ TargetCosts m (now a) (now b) ⌝ ∗ ⌜ Best (m .g) (m .target .0) (m .g ^ (2 * m .k)) (now a) (now b) best ⌝ }
@@ -201,5 +204,6 @@ fn told(m: Model, best: Choice, a: &[u16], b: &[u16], schedule: &mut [u8]) -> Ju
     let line = best.line;
     witness::write(m, line, a[line], b[line], schedule);
     let steps = best.steps as u64;
-    Judgement::Found(steps)
+    let end = 2 * best.steps as usize;
+    Judgement::Found(steps, depths(m, &schedule[..end]))
 }

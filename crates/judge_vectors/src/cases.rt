@@ -1,5 +1,6 @@
 // Comparisons of a judgement with what is known of a model. Every store is filled with 170 beforehand.
 use judge::Judgement;
+use model::Depths;
 use model::Model;
 use model::Symbol;
 use model::Thread;
@@ -7,20 +8,48 @@ use model::Top;
 use replay::Replayed;
 
 // The numbers of the verdicts in the files of cases.
-pub const CLEAR: u8 = 0;
+const CLEAR: u8 = 0;
 
-pub const LONG: u8 = 1;
+const LONG: u8 = 1;
 
-pub const FOUND: u8 = 2;
+const FOUND: u8 = 2;
 
-// A judgement is this verdict, and where it is Found, of so many steps.
-fn is(j: Judgement, kind: u8, steps: u64) -> bool {
-    match j {
-        Judgement::Clear => kind == CLEAR,
-        Judgement::Long => kind == LONG,
-        Judgement::Found(n) => kind == FOUND && n == steps,
-        Judgement::Refused(_) => false,
+// What is known of a model: its verdict, and where it is Found, the steps and the depths of A and B, each 0 where it is not known.
+pub struct Known {
+    pub kind: u8,
+    pub steps: usize,
+    pub a: usize,
+    pub b: usize,
+}
+
+// What a file of cases says, which has no depths.
+pub fn stored(kind: u8, steps: usize) -> Known {
+    Known {
+        kind,
+        steps,
+        a: 0,
+        b: 0,
     }
+}
+
+// It is Clear.
+pub fn clear() -> Known {
+    stored(CLEAR, 0)
+}
+
+// It is Found in so many steps, with these depths.
+pub fn found(steps: usize, a: usize, b: usize) -> Known {
+    Known {
+        kind: FOUND,
+        steps,
+        a,
+        b,
+    }
+}
+
+// A depth is the one that is known, if any is.
+fn deep(depth: usize, known: usize) -> bool {
+    known == 0 || depth == known
 }
 
 // A judgement is a refusal with this number.
@@ -28,17 +57,14 @@ fn refused(j: Judgement, number: u8) -> bool {
     match j {
         Judgement::Clear => false,
         Judgement::Long => false,
-        Judgement::Found(_) => false,
+        Judgement::Found(_, _) => false,
         Judgement::Refused(n) => n == number,
     }
 }
 
-// Where the verdict is Found, a schedule store begins with a schedule of so many steps that replay finds to reach the target;
-// all other bytes are as they were.
-fn scheduled(m: Model, kind: u8, steps: usize, schedule: &[u8]) -> bool {
-    if kind != FOUND {
-        return vectors::filled(schedule, 170);
-    }
+// A schedule store begins with a schedule of so many steps that replay finds to reach the target, with these depths; all other bytes are
+// as they were.
+fn scheduled(m: Model, steps: usize, depths: Depths, schedule: &[u8]) -> bool {
     if 4095 < steps {
         return false;
     }
@@ -50,26 +76,36 @@ fn scheduled(m: Model, kind: u8, steps: usize, schedule: &[u8]) -> bool {
         return false;
     }
     match replay::replay(m, &schedule[0..end]) {
-        Replayed::Accepted(shared, reached) => reached && shared.0 == m.target.0,
+        Replayed::Accepted(shared, reached, d) => {
+            reached && shared.0 == m.target.0 && d.a == depths.a && d.b == depths.b
+        }
         Replayed::Refused(_) => false,
     }
 }
 
-// The judgement on a model and what it leaves in the schedule store.
-fn judged(m: Model, kind: u8, steps: usize, lines: &mut [u8], schedule: &mut [u8]) -> bool {
-    if !is(judge::judge(m, lines, schedule), kind, steps as u64) {
-        return false;
+// The judgement on a model is what is known of it, and the schedule store is left as it was or with the schedule that is Found.
+fn judged(m: Model, known: Known, lines: &mut [u8], schedule: &mut [u8]) -> bool {
+    match judge::judge(m, lines, schedule) {
+        Judgement::Clear => known.kind == CLEAR && vectors::filled(schedule, 170),
+        Judgement::Long => known.kind == LONG && vectors::filled(schedule, 170),
+        Judgement::Found(n, d) => {
+            known.kind == FOUND
+                && n == known.steps as u64
+                && deep(d.a, known.a)
+                && deep(d.b, known.b)
+                && scheduled(m, known.steps, d, schedule)
+        }
+        Judgement::Refused(_) => false,
     }
-    scheduled(m, kind, steps, schedule)
 }
 
 // The judgement on the model that a record holds, with stores longer than it needs; the line table too where one is given.
-pub fn agrees(bytes: &[u8], kind: u8, steps: usize, table: &[u8]) -> bool {
+pub fn agrees(bytes: &[u8], known: Known, table: &[u8]) -> bool {
     let reading = record::read(bytes);
     let m = reading.model;
     let mut lines = [170u8; 700];
     let mut schedule = [170u8; 8200];
-    if !judged(m, kind, steps, &mut lines, &mut schedule) {
+    if !judged(m, known, &mut lines, &mut schedule) {
         return false;
     }
     let n = table.len();
@@ -86,23 +122,16 @@ pub fn agrees(bytes: &[u8], kind: u8, steps: usize, table: &[u8]) -> bool {
 }
 
 // A model is judged with a line store of n bytes and a schedule store of 8,190; one byte less of either is refused by 7.
-pub fn fits(bytes: &[u8], kind: u8, steps: usize, n: usize) -> bool {
+pub fn fits(bytes: &[u8], known: Known, n: usize) -> bool {
     let reading = record::read(bytes);
     let m = reading.model;
     let mut lines = [170u8; 700];
     let mut schedule = [170u8; 8190];
-    fits_in(m, kind, steps, n, &mut lines, &mut schedule)
+    fits_in(m, known, n, &mut lines, &mut schedule)
 }
 
 // The same, with the stores given.
-fn fits_in(
-    m: Model,
-    kind: u8,
-    steps: usize,
-    n: usize,
-    lines: &mut [u8],
-    schedule: &mut [u8],
-) -> bool {
+fn fits_in(m: Model, known: Known, n: usize, lines: &mut [u8], schedule: &mut [u8]) -> bool {
     if n == 0 {
         return false;
     }
@@ -126,7 +155,7 @@ fn fits_in(
     if !vectors::filled(schedule, 170) {
         return false;
     }
-    judged(m, kind, steps, &mut lines[0..n], schedule)
+    judged(m, known, &mut lines[0..n], schedule)
 }
 
 // A model is refused with this number, and both stores stay as they were.

@@ -1,5 +1,5 @@
-// Judges document 01's models, some with tops and some with held rules, the longest and deepest ones we know and files of random ones, and compares: verdict,
-// steps, line table, and the schedule, which is replayed.
+// Judges document 01's models, some with tops and some with held rules, the longest and deepest ones we know and files of random ones, and
+// compares: verdict, steps, depths, line table, and the schedule, which is replayed.
 use vectors::Tally;
 
 mod cases;
@@ -15,12 +15,12 @@ const MANY: [u8; 131] = *b"\x48\x01\x40\
 
 // The model that a record holds is Clear.
 fn clear(bytes: &[u8]) -> bool {
-    cases::agrees(bytes, cases::CLEAR, 0, &[])
+    cases::agrees(bytes, cases::clear(), &[])
 }
 
-// It is Found in so many steps.
-fn found(bytes: &[u8], steps: usize) -> bool {
-    cases::agrees(bytes, cases::FOUND, steps, &[])
+// It is Found in so many steps, with these depths of A and B, each 0 where it is not known.
+fn found(bytes: &[u8], steps: usize, a: usize, b: usize) -> bool {
+    cases::agrees(bytes, cases::found(steps, a, b), &[])
 }
 
 // The models of document 01. Without its first rule, Two's thread A has an empty stack after its step.
@@ -29,13 +29,13 @@ fn document() -> Tally {
     let two = vectors::TWO;
     let once = vectors::TWO_ONCE;
     let mut t = Tally::new();
-    t = t.counted(cases::agrees(&one, cases::FOUND, 1, b"\x27"));
-    t = t.counted(cases::agrees(&two, cases::FOUND, 4, &[]));
-    t = t.counted(cases::agrees(&once, cases::CLEAR, 0, b"\x13\x06\x00"));
+    t = t.counted(cases::agrees(&one, cases::found(1, 1, 1), b"\x27"));
+    t = t.counted(found(&two, 4, 2, 1));
+    t = t.counted(cases::agrees(&once, cases::clear(), b"\x13\x06\x00"));
     t = t.counted(clear(b"\xCA\x01\x03\x02\x01\x00\x01\x01\x20\x03\x01\x03\x10\x02\x00"));
     t = t.counted(clear(b"\xC8\x03\x02\x01\x00\x01\x01\x20\x03\x01\x03\x10\x02\x00"));
     t = t.counted(clear(b"\xCA\x03\x03\x02\x01\x00\x01\x01\x20\x03\x01\x03\x10\x02\x00"));
-    t.counted(found(b"\x08\x00", 0))
+    t.counted(found(b"\x08\x00", 0, 1, 1))
 }
 
 // Tops: the start has it or not; One's A has an empty stack after its step, which moves no line; Two's A needs one more push, and B none; a
@@ -43,18 +43,22 @@ fn document() -> Tally {
 fn tops() -> Tally {
     let one = *b"\x4B\x02\x01\x81\x01\x00\x01\x01\x00\x01";
     let mut t = Tally::new();
-    t = t.counted(found(b"\x08\x80\x01\x00", 0));
+    t = t.counted(found(b"\x08\x80\x01\x00", 0, 1, 1));
     t = t.counted(clear(b"\x08\x80\x01\x01"));
-    t = t.counted(cases::agrees(&one, cases::CLEAR, 0, b"\x27"));
+    t = t.counted(cases::agrees(&one, cases::clear(), b"\x27"));
     t = t.counted(found(
         b"\xC8\x83\x01\x00\x03\x06\x00\x00\x00\x01\x00\x01\x01\x20\x03\x01\x03\x10\x02\x00",
         5,
+        3,
+        1,
     ));
     t = t.counted(found(
         b"\xC8\x83\x02\x00\x03\x06\x00\x00\x00\x01\x00\x01\x01\x20\x03\x01\x03\x10\x02\x00",
         4,
+        2,
+        1,
     ));
-    t.counted(found(b"\x88\x81\x02\x00\x02\x07\x00\x01\x01\x00\x00\x11", 2))
+    t.counted(found(b"\x88\x81\x02\x00\x02\x07\x00\x01\x01\x00\x00\x11", 2, 1, 2))
 }
 
 // Held rules: One's rule, which empties the stack; a target that is passed inside a held stretch alone; Two with A's rule 0 held, which
@@ -65,12 +69,14 @@ fn held() -> Tally {
     let inside =
         *b"\x4B\x02\x01\x81\x04\x01\x00\x00\x00\x00\x00\x00\x00\x02\x03\x00\x01\x00\x03\x10\x00\x01";
     let mut t = Tally::new();
-    t = t.counted(cases::agrees(&one, cases::CLEAR, 0, b"\x05"));
-    t = t.counted(cases::agrees(&inside, cases::CLEAR, 0, b"\x05"));
+    t = t.counted(cases::agrees(&one, cases::clear(), b"\x05"));
+    t = t.counted(cases::agrees(&inside, cases::clear(), b"\x05"));
     t = t.counted(found(
         b"\xC8\x83\x04\x01\x00\x00\x00\x00\x00\x00\x00\
           \x03\x06\x00\x00\x00\x01\x00\x01\x01\x20\x03\x01\x03\x10\x02\x00",
         4,
+        2,
+        1,
     ));
     t = t.counted(clear(
         b"\xC8\x83\x04\x02\x00\x00\x00\x00\x00\x00\x00\
@@ -84,12 +90,35 @@ fn held() -> Tally {
         b"\xC8\x83\x0C\x01\x00\x00\x00\x00\x00\x00\x00\x01\x00\x00\x00\x00\x00\x00\x00\
           \x03\x06\x00\x00\x00\x01\x00\x01\x01\x20\x03\x02\x03\x10\x02\x00\x02\x20\x00",
         5,
+        2,
+        1,
     ));
     t.counted(found(
         b"\xC8\x83\x05\x00\x01\x00\x00\x00\x00\x00\x00\x00\
           \x03\x06\x00\x00\x00\x01\x00\x01\x01\x20\x03\x01\x03\x10\x02\x00",
         5,
+        3,
+        1,
     ))
+}
+
+// Depths: both stacks grow, B's more; B's grows, shrinks and grows again; and two shortest schedules with unlike depths, of which either
+// will do.
+fn depths() -> Tally {
+    let mut t = Tally::new();
+    t = t.counted(found(
+        b"\xC8\x03\x01\x07\x00\x01\x00\x00\x02\x07\x10\x02\x00\x00\x07\x20\x03\x00\x00",
+        3,
+        2,
+        3,
+    ));
+    t = t.counted(found(
+        b"\x88\x03\x03\x07\x00\x01\x00\x00\x01\x10\x02\x07\x20\x03\x00\x00",
+        3,
+        1,
+        2,
+    ));
+    t.counted(found(b"\x48\x01\x02\x03\x00\x01\x00\x07\x00\x01\x00\x00", 1, 0, 0))
 }
 
 // Stores of just the size needed, and one byte less; models that no record holds: no states at all, a thread with 65 rules, a top that is
@@ -99,12 +128,11 @@ fn limits() -> Tally {
     let two = vectors::TWO;
     let once = vectors::TWO_ONCE;
     let mut t = Tally::new();
-    t = t.counted(cases::fits(&two, cases::FOUND, 4, 43));
-    t = t.counted(cases::fits(&once, cases::CLEAR, 0, 3));
+    t = t.counted(cases::fits(&two, cases::found(4, 2, 1), 43));
+    t = t.counted(cases::fits(&once, cases::clear(), 3));
     t = t.counted(cases::fits(
         b"\xCA\x03\x03\x02\x01\x00\x01\x01\x20\x03\x01\x03\x10\x02\x00",
-        cases::CLEAR,
-        0,
+        cases::clear(),
         683,
     ));
     t = t.counted(clear(&MANY));
@@ -139,7 +167,7 @@ fn corpus(s: &[u8]) -> Tally {
         let table = vectors::part_at(s, end + 3);
         let from = table.start;
         let to = table.end;
-        t = t.counted(cases::agrees(&s[start..end], kind, steps, &s[from..to]));
+        t = t.counted(cases::agrees(&s[start..end], cases::stored(kind, steps), &s[from..to]));
         if to <= at {
             return t;
         }
@@ -168,6 +196,7 @@ fn main() {
     document().report(b"document 01");
     tops().report(b"tops");
     held().report(b"held rules");
+    depths().report(b"depths");
     limits().report(b"stores and counts");
     files();
 }

@@ -1,5 +1,5 @@
 -- Unused rule places change nothing: a rule that applies is in the list, so models that are the same make the same walks
--- and runs, and have the same marked lines and the same verdict.
+-- and runs, as deep, and have the same marked lines and the same verdict.
 use mathlib.Core.Bool.{Bool}
 use mathlib.Core.List.{List, [], _∷_}
 use mathlib.Core.Path.{_≡_, refl, sym, fun-ext}
@@ -9,6 +9,7 @@ use native.Mathlib.Omega.{arith}
 use borrow.Author.Tests.{le-ltb}
 use Rattle.model.specs.declared.Model.{Model}
 use Rattle.model.specs.declared.Thread.{Thread}
+use Rattle.model.specs.Depths.{depthFrom, depthsOf}
 use Rattle.model.specs.Rules.{applies}
 use Rattle.model.specs.Runs.{Leads, Reaches, Turns, stop, end, move, Marked}
 use Rattle.model.specs.Valid.{SameThread, Same, Valid}
@@ -86,15 +87,29 @@ same-fire {m} {n} e c s (top ∷ w) =
       | no h ↦ rw (← t .count, le-ltb (s .rule) (threadOf i m .count) (omega arith))
     ]
 
--- Models that are the same make the same walks.
+-- Models that are the same make the same steps ..
+same-step : {m n : Model} → Same m n → (c : Config) (x : Step) → stepFrom m c x ≡ stepFrom n c x
+unfolding stepFrom turnFits
+same-step s c x = rw (same-fire s c x (stackOf (ownerOf (x .turn)) (c .stacks)), s .k)
+
+-- .. and so the same walks ..
 pub same-walk : {m n : Model} → Same m n → (ss : List Step) (c : Config) → walk m c ss ≡ walk n c ss
-unfolding walk stepFrom turnFits
+unfolding walk
 same-walk s [] c = refl
-same-walk {m} {n} s (x ∷ xs) c =
-    rw (same-fire s c x (stackOf (ownerOf (x .turn)) (c .stacks)), fun-ext (same-walk s xs), s .k)
+same-walk s (x ∷ xs) c = rw (same-step s c x, fun-ext (same-walk s xs))
+
+-- .. as deep.
+same-depth : {m n : Model} → Same m n → (i : ThreadId) (ss : List Step) (c : Config) → depthFrom i m c ss ≡ depthFrom i n c ss
+unfolding depthFrom
+same-depth s i [] c = refl
+same-depth s i (x ∷ xs) c = rw (same-step s c x, fun-ext (same-depth s i xs))
 
 same-start : {m n : Model} → Same m n → startOf m ≡ startOf n
 same-start s = rw (s .start, s .a .first, s .b .first)
+
+-- The depths of a schedule are the same.
+pub same-depths : {m n : Model} → Same m n → (ss : List Step) → depthsOf m ss ≡ depthsOf n ss
+same-depths {m} {n} s ss = rw (same-start s, same-depth s A ss (startOf n), same-depth s B ss (startOf n))
 
 -- A schedule leads to the same shared state and stacks.
 pub same-leads : {m n : Model} → Same m n → {ss : List Step} {g : ℕ} {σ : Stacks} → Leads m ss g σ → Leads n ss g σ

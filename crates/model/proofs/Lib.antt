@@ -1,6 +1,7 @@
 pub mod Alike
 pub mod Bytes
 pub mod Checks
+pub mod Deepest
 pub mod Granted
 pub mod Inside
 pub mod Keys

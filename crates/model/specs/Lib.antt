@@ -1,4 +1,5 @@
 pub mod Bits
+pub mod Depths
 pub mod Fits
 pub mod Lines
 pub mod Order

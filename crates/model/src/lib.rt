@@ -63,6 +63,12 @@ pub struct Model {
     pub b: Thread,
 }
 
+// How many symbols each stack held at most in a run, the one at the start counted.
+pub struct Depths {
+    pub a: usize,
+    pub b: usize,
+}
+
 // What an unused rule place holds in a model that was read.
 pub const ZERO_RULE: Rule = Rule {
     before: Shared(0),

@@ -9,6 +9,7 @@ use lib.Dec.{leb}
 use lib.ListN.{length, drop}
 use lib.Seq.{sets-eq}
 use borrow.Author.Tests.{le-leb, lt-leb}
+use Rattle.model.specs.declared.Depths.{Depths}
 use Rattle.model.specs.declared.Model.{Model}
 use Rattle.model.specs.declared.Shared.{Shared}
 use Rattle.model.specs.Results.{refuse, firstOf, storeBy}
@@ -46,7 +47,7 @@ module _ (m : Model) (l store : List ℕ) where
       go zero h d = absurd (h refl)
       go (suc k) h d = told (suc k) d
 
-  module _ {q : Shared} {reached : Bool} (e : replayOf m l ≡ replayed.Accepted q reached) {n : ℕ}
+  module _ {q : Shared} {reached : Bool} {depths : Depths} (e : replayOf m l ≡ replayed.Accepted q reached depths) {n : ℕ}
       (size : length (pageOf m (stepsOf l)) ≡ n) where
     -- .. and of what it accepts a page that does not fit ..
     pub short : length store < n → Told (Refused 7) store

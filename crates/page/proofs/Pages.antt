@@ -6,6 +6,7 @@ use mathlib.Core.Path.{_≡_, refl, ap, _∙_}
 use Prim.Native.Nat.{ℕ, suc, _+_, _*_, _/_, _≤_}
 use native.Mathlib.Omega.{arith}
 use lib.ListN.{length, length-append}
+use Rattle.model.specs.declared.Depths.{Depths}
 use Rattle.model.specs.declared.Model.{Model}
 use Rattle.model.specs.declared.Shared.{Shared}
 use Rattle.model.specs.Fits.{Fits}
@@ -35,9 +36,9 @@ length-lines {m} f (s ∷ ss) c n h e =
     let rest = length-lines f ss (t .0) (suc n) (omega arith) (t .2) in
     rw (t .1) (simp length-append (omega arith))
 
-module _ (m : Model) (l : List ℕ) {q : Shared} {reached : Bool} (e : replayOf m l ≡ Accepted q reached) where
-  legal : Legally m l (q .0) reached
-  legal = accepts m l q reached .0 e
+module _ (m : Model) (l : List ℕ) {q : Shared} {reached : Bool} {depths : Depths} (e : replayOf m l ≡ Accepted q reached depths) where
+  legal : Legally m l (q .0) reached depths
+  legal = accepts m l q reached depths .0 e
 
   -- The walk of the schedule's bytes makes every step.
   walked : walk m (startOf m) (stepsOf l)

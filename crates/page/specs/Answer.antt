@@ -15,7 +15,7 @@ use Rattle.page.specs.Page.{pageOf}
 
 -- The number by which replay refuses; 0 for none.
 abbrev pub replayRefusal : Replayed → ℕ
-replayRefusal (replayed.Accepted shared reached) = 0
+replayRefusal (replayed.Accepted shared reached depths) = 0
 replayRefusal (replayed.Refused n) = n
 
 -- What is refused, in order: what replay refuses, then 7 for a store shorter than the page; 0 for nothing.

@@ -32,7 +32,7 @@ pub fn page(m: Model, schedule: &[u8], store: &mut [u8]) -> Paged
     ensures stored { λ r. ⌜ now (store .exit) ≡ pageStore m (now (schedule .entry)) (now (store .entry)) ⌝ }
 {
     match replay::replay(m, schedule) {
-        Replayed::Accepted(_, _) => {
+        Replayed::Accepted(_, _, _) => {
             let size = LINE * (schedule.len() / 2 + 1);
             if store.len() < size {
                 return Paged::Refused(7);

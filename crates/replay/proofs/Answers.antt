@@ -5,20 +5,27 @@ use Prim.Native.Nat.{ℕ, _%_, _<_, _≤_}
 use borrow.Author.Tests.{le-leb, lt-leb, eq-eqb, ne-eqb}
 use lib.ListN.{length}
 use Rattle.model.specs.declared.Model.{Model}
-use Rattle.model.specs.Results.{refuse, firstOf}
+use Rattle.model.specs.Results.{accepted, refuse, firstOf}
 use Rattle.model.specs.Schedules.{stepsOf, mostBytes}
 use Rattle.model.specs.Valid.{faultOf}
-use Rattle.model.specs.Walk.{Walked, startOf, walk}
+use Rattle.model.specs.Walk.{Config, Step, Walked, startOf, walk}
 use Rattle.model.proofs.Checks.{stops}
 use Rattle.model.proofs.Ranges.{valid-fits}
 use Rattle.model.proofs.Results.{due}
 use Rattle.replay.specs.declared.Replayed.the-variants.{Refused}
 use Rattle.replay.specs.Replay.{sizeFits, replayedBy, replayOf}
+use Rattle.depths.specs.Heights.{Legal}
+use Rattle.depths.proofs.Climbing.{legal}
 use Rattle.walk.specs.Stack.{Counted}
 
 -- A valid model's rules are within their arrays.
 pub counted : (m : Model) {found : ℕ} → found ≡ faultOf m → found ≡ 0 → Counted m
 counted m e z = let f = valid-fits m .0 (sym e ∙ z) in record { a = f .a .count; b = f .b .count }
+
+-- What is walked to its end is legal.
+pub walked-legal : (m : Model) {found : ℕ} {ss : List Step} {c : Config} → found ≡ faultOf m → found ≡ 0
+    → accepted c ≡ walk m (startOf m) ss → Legal m ss
+walked-legal m e z w = legal (valid-fits m .0 (sym e ∙ z)) (sym w)
 
 module _ (m : Model) (l : List ℕ) {found : ℕ} (e : found ≡ faultOf m) where
   -- A fault of the model is the answer, whatever else there is.
@@ -37,6 +44,6 @@ module _ (m : Model) (l : List ℕ) {found : ℕ} (e : found ≡ faultOf m) wher
 
   -- .. and any other is walked.
   pub walked : found ≡ 0 → length l % 2 ≡ 0 → length l ≤ mostBytes → {w : Walked} → w ≡ walk m (startOf m) (stepsOf l)
-      → replayedBy m w ≡ replayOf m l
+      → replayedBy m (stepsOf l) w ≡ replayOf m l
   unfolding replayOf sizeFits firstOf
   walked z h k p = rw (p, ← e, z, eq-eqb (length l % 2) 0 h, le-leb (length l) mostBytes k)

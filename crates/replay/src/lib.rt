@@ -5,6 +5,8 @@ ghost use lib.ListN.{length};
 ghost use Rattle.model.specs.Walk.{atTarget};
 ghost use Rattle.replay.specs.Replay.{replayOf};
 ghost use Rattle.walk.specs.Stack.{configOf};
+use depths::depths;
+use model::Depths;
 use model::MOST_BYTES;
 use model::Model;
 use model::Shared;
@@ -12,9 +14,10 @@ use walk::STACK;
 use walk::Stepped;
 use walk::Walk;
 
-// What a schedule comes to: the last shared state and whether its run ends at the target, or the number of its first fault.
+// What a schedule comes to: the last shared state, whether its run ends at the target, and the depths of its stacks; or the number of
+// its first fault.
 pub enum Replayed {
-    Accepted(Shared, bool),
+    Accepted(Shared, bool, Depths),
     Refused(u8),
 }
 
@@ -36,7 +39,10 @@ pub fn replay(m: Model, schedule: &[u8]) -> Replayed
     let mut b = [0u8; STACK];
     let start = walk::start(m, &mut a, &mut b);
     match walk::steps(start, m, schedule, &mut a, &mut b) {
-        Stepped::Made(w) => Replayed::Accepted(Shared(w.shared), at_target(m, w, &a, &b)),
+        Stepped::Made(w) => {
+            let reached = at_target(m, w, &a, &b);
+            Replayed::Accepted(Shared(w.shared), reached, depths(m, schedule))
+        }
         Stepped::Refused(n) => Replayed::Refused(n),
     }
 }

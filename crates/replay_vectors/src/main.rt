@@ -2,15 +2,35 @@
 use replay::Replayed;
 use vectors::Tally;
 
-// A schedule of the model that a record holds gets this answer: 0 with the last shared state and whether its run ends at the target,
-// or a refusal's number.
-fn agrees(bytes: &[u8], schedule: &[u8], answer: u8, last: u8, target: bool) -> bool {
+// A schedule of the model that a record holds gets this answer: 0 with the last shared state, whether its run ends at the target, and the
+// depths of A and B; or a refusal's number.
+fn agrees(
+    bytes: &[u8],
+    schedule: &[u8],
+    answer: u8,
+    last: u8,
+    target: bool,
+    a: usize,
+    b: usize,
+) -> bool {
     let reading = record::read(bytes);
     let m = reading.model;
     match replay::replay(m, schedule) {
-        Replayed::Accepted(shared, reached) => answer == 0 && shared.0 == last && reached == target,
+        Replayed::Accepted(shared, reached, depths) => {
+            answer == 0 && shared.0 == last && reached == target && depths.a == a && depths.b == b
+        }
         Replayed::Refused(n) => n == answer,
     }
+}
+
+// It is accepted, with these.
+fn accepts(bytes: &[u8], schedule: &[u8], last: u8, target: bool, a: usize, b: usize) -> bool {
+    agrees(bytes, schedule, 0, last, target, a, b)
+}
+
+// It is refused with this number.
+fn refuses(bytes: &[u8], schedule: &[u8], number: u8) -> bool {
+    agrees(bytes, schedule, number, 0, false, 0, 0)
 }
 
 // Schedules of model One, and of model Two at K=2 and at K=1.
@@ -19,18 +39,18 @@ fn document() -> Tally {
     let two = vectors::TWO;
     let once = vectors::TWO_ONCE;
     let mut t = Tally::new();
-    t = t.counted(agrees(&one, &[0, 0], 0, 1, true));
-    t = t.counted(agrees(&two, &[0, 0, 0, 1, 1, 0, 2, 2], 0, 3, true));
-    t = t.counted(agrees(&two, &[], 0, 0, false));
-    t = t.counted(agrees(&two, &[0], 8, 0, false));
-    t = t.counted(agrees(&once, &[2, 0], 9, 0, false));
-    t = t.counted(agrees(&two, &[0, 2], 10, 0, false));
-    t = t.counted(agrees(&two, &[0, 3], 10, 0, false));
-    t = t.counted(agrees(&two, &[4, 0], 9, 0, false));
-    t = t.counted(agrees(&two, &[0, 1, 1, 0, 0, 2], 9, 0, false));
+    t = t.counted(accepts(&one, &[0, 0], 1, true, 1, 1));
+    t = t.counted(accepts(&two, &[0, 0, 0, 1, 1, 0, 2, 2], 3, true, 2, 1));
+    t = t.counted(accepts(&two, &[], 0, false, 1, 1));
+    t = t.counted(refuses(&two, &[0], 8));
+    t = t.counted(refuses(&once, &[2, 0], 9));
+    t = t.counted(refuses(&two, &[0, 2], 10));
+    t = t.counted(refuses(&two, &[0, 3], 10));
+    t = t.counted(refuses(&two, &[4, 0], 9));
+    t = t.counted(refuses(&two, &[0, 1, 1, 0, 0, 2], 9));
     // A's stack is empty after its step: B goes on, and A takes no step.
-    t = t.counted(agrees(&two, &[0, 1, 1, 0], 0, 2, false));
-    t.counted(agrees(&two, &[0, 1, 1, 0, 2, 2], 10, 0, false))
+    t = t.counted(accepts(&two, &[0, 1, 1, 0], 2, false, 1, 1));
+    t.counted(refuses(&two, &[0, 1, 1, 0, 2, 2], 10))
 }
 
 // Yes needs the tops too: at the start, where A's stack is empty, and where a 0 lies below the one that A's last step removes.
@@ -42,26 +62,28 @@ fn tops() -> Tally {
     let once = [0, 0, 0, 1, 1, 0, 2, 2];
     let twice = [0, 0, 0, 0, 0, 1, 1, 0, 2, 2];
     let mut t = Tally::new();
-    t = t.counted(agrees(b"\x08\x80\x01\x00", &[], 0, 0, true));
-    t = t.counted(agrees(b"\x08\x80\x02\x01", &[], 0, 0, false));
-    t = t.counted(agrees(
+    t = t.counted(accepts(b"\x08\x80\x01\x00", &[], 0, true, 1, 1));
+    t = t.counted(accepts(b"\x08\x80\x02\x01", &[], 0, false, 1, 1));
+    t = t.counted(accepts(
         b"\x4B\x02\x01\x81\x01\x00\x01\x01\x00\x01",
         &[0, 0],
-        0,
         1,
         false,
+        1,
+        1,
     ));
-    t = t.counted(agrees(
+    t = t.counted(accepts(
         b"\x4B\x02\x01\x81\x02\x00\x01\x01\x00\x01",
         &[0, 0],
-        0,
         1,
         true,
+        1,
+        1,
     ));
-    t = t.counted(agrees(&top_a, &once, 0, 3, false));
-    t = t.counted(agrees(&top_a, &twice, 0, 3, true));
-    t = t.counted(agrees(&top_a, &twice[..6], 0, 1, false));
-    t.counted(agrees(&tops, &twice, 0, 3, false))
+    t = t.counted(accepts(&top_a, &once, 3, false, 2, 1));
+    t = t.counted(accepts(&top_a, &twice, 3, true, 3, 1));
+    t = t.counted(accepts(&top_a, &twice[..6], 1, false, 3, 1));
+    t.counted(accepts(&tops, &twice, 3, false, 3, 1))
 }
 
 // A turn is not left after a held step: not at the end, nor for another turn, be it the same thread's or by a rule that is not there.
@@ -76,16 +98,16 @@ fn held() -> Tally {
         *b"\xC8\x83\x08\x01\x00\x00\x00\x00\x00\x00\x00\x03\x06\x00\x00\x00\x01\x00\x01\x01\x20\x03\x01\x03\x10\x02\x00";
     let once = [0, 0, 0, 1, 1, 0, 2, 2];
     let mut t = Tally::new();
-    t = t.counted(agrees(&first, &once, 0, 3, true));
-    t = t.counted(agrees(&first, &once[..2], 12, 0, false));
-    t = t.counted(agrees(&first, &[0, 0, 2, 0], 12, 0, false));
-    t = t.counted(agrees(&second, &[], 0, 0, false));
-    t = t.counted(agrees(&second, &once[..4], 12, 0, false));
-    t = t.counted(agrees(&second, &once, 12, 0, false));
-    t = t.counted(agrees(&second, &[0, 1, 1, 9], 12, 0, false));
-    t = t.counted(agrees(&second, &[0, 1, 4, 9], 9, 0, false));
-    t = t.counted(agrees(&second, &[0, 1, 0, 9], 10, 0, false));
-    t.counted(agrees(&of_b, &once, 12, 0, false))
+    t = t.counted(accepts(&first, &once, 3, true, 2, 1));
+    t = t.counted(refuses(&first, &once[..2], 12));
+    t = t.counted(refuses(&first, &[0, 0, 2, 0], 12));
+    t = t.counted(accepts(&second, &[], 0, false, 1, 1));
+    t = t.counted(refuses(&second, &once[..4], 12));
+    t = t.counted(refuses(&second, &once, 12));
+    t = t.counted(refuses(&second, &[0, 1, 1, 9], 12));
+    t = t.counted(refuses(&second, &[0, 1, 4, 9], 9));
+    t = t.counted(refuses(&second, &[0, 1, 0, 9], 10));
+    t.counted(refuses(&of_b, &once, 12))
 }
 
 // The longest schedules: 4,095 steps that push, or that keep the top; one step more is refused.
@@ -94,14 +116,38 @@ fn longest() -> Tally {
     let keep = [72u8, 0, 1, 2, 0, 0];
     let zeros = [0u8; 8192];
     let mut t = Tally::new();
-    t = t.counted(agrees(&push, &zeros[..8190], 0, 0, false));
-    t = t.counted(agrees(&push, &zeros, 8, 0, false));
-    t = t.counted(agrees(&keep, &zeros[..8190], 0, 0, true));
-    t = t.counted(agrees(&keep, &zeros[..8189], 8, 0, false));
-    t.counted(agrees(&keep, &zeros, 8, 0, false))
+    t = t.counted(accepts(&push, &zeros[..8190], 0, false, 4096, 1));
+    t = t.counted(refuses(&push, &zeros, 8));
+    t = t.counted(accepts(&keep, &zeros[..8190], 0, true, 1, 1));
+    t = t.counted(refuses(&keep, &zeros[..8189], 8));
+    t.counted(refuses(&keep, &zeros, 8))
 }
 
-// One case of the file after another: a record and a schedule with their lengths, and the answer in three bytes.
+// A depth is the greatest height, whatever comes after it: no step; stacks that only shrink; two pushes and two removals; a push after a
+// removal; 4,095 pushes; both stacks deep in turn; and heights that only a held step reaches. In `free` A pushes by rule 0, removes and goes
+// to state 1, the target, by rule 1, and removes there by rule 2; B removes by rule 0 and pushes by rule 1, and in state 1 by rule 2. In
+// `held`, A's rule 0 and B's rule 1 are held.
+fn depths() -> Tally {
+    let free =
+        *b"\xC8\x01\x03\x06\x00\x00\x00\x01\x00\x01\x00\x10\x03\x00\x00\x06\x00\x00\x00\x06\x10\x00\x00";
+    let held = *b"\xC8\x81\x0C\x01\x00\x00\x00\x00\x00\x00\x00\x02\x00\x00\x00\x00\x00\x00\x00\
+          \x03\x06\x00\x00\x00\x01\x00\x01\x00\x10\x03\x00\x00\x06\x00\x00\x00\x06\x10\x00\x00";
+    let mut t = Tally::new();
+    t = t.counted(accepts(&free, &[], 0, false, 1, 1));
+    t = t.counted(accepts(&free, &[0, 1], 1, true, 1, 1));
+    t = t.counted(accepts(&free, &[1, 0], 0, false, 1, 1));
+    t = t.counted(accepts(&free, &[0, 0, 0, 0, 0, 1, 0, 2], 1, true, 3, 1));
+    t = t.counted(accepts(&free, &[1, 1, 1, 1, 1, 0, 1, 0], 0, false, 1, 3));
+    t = t.counted(accepts(&free, &[1, 1, 1, 0, 1, 1], 0, false, 1, 2));
+    t = t.counted(accepts(&free, &[0; 8190], 0, false, 4096, 1));
+    t = t.counted(accepts(&free, &[1; 8190], 0, false, 1, 4096));
+    t = t.counted(accepts(&free, &[0, 0, 0, 0, 1, 1, 2, 0, 3, 1], 0, false, 4, 3));
+    t = t.counted(accepts(&free, &[0, 0, 0, 0, 0, 1, 1, 2, 2, 2], 1, true, 3, 2));
+    t = t.counted(accepts(&held, &[0, 0, 0, 1], 1, true, 2, 1));
+    t.counted(accepts(&held, &[1, 1, 1, 0], 0, false, 1, 2))
+}
+
+// One case of the file after another: a record and a schedule with their lengths, the answer in three bytes, and the depths in two each.
 fn corpus(s: &[u8]) -> Tally {
     let mut t = Tally::new();
     let mut at = 0;
@@ -112,6 +158,7 @@ fn corpus(s: &[u8]) -> Tally {
         let schedule = vectors::part_at(s, end);
         let from = schedule.start;
         let to = schedule.end;
+        let next = to + 7;
         let last = vectors::byte_after(s, to, 1);
         let target = vectors::byte_after(s, to, 2) == 1;
         t = t.counted(agrees(
@@ -120,11 +167,13 @@ fn corpus(s: &[u8]) -> Tally {
             vectors::byte_at(s, to),
             last,
             target,
+            vectors::number_at(s, to + 3),
+            vectors::number_at(s, to + 5),
         ));
-        if to < at {
+        if next <= at {
             return t;
         }
-        at = to + 3;
+        at = next;
     }
     t
 }
@@ -140,6 +189,7 @@ fn main() {
     tops().report(b"tops");
     held().report(b"held rules");
     longest().report(b"longest schedules");
-    let mut store = [0u8; 370000];
+    depths().report(b"depths");
+    let mut store = [0u8; 450000];
     file(&mut store);
 }

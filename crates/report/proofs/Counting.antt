@@ -17,7 +17,7 @@ use Rattle.writer.specs.Put.{Put}
 use Rattle.writer.proofs.Puts.{nothing, _then_}
 use Rattle.costs.specs.Lanes.{fullLines}
 use Rattle.report.specs.Table.{standing, Fills}
-use Rattle.report.specs.Text.{countOf, countLine, countLines}
+use Rattle.report.specs.Text.{countOf, pairLine, countLines}
 use Rattle.report.proofs.Sizes.{powers-low, count-short}
 
 -- A byte halved once more loses one bit more.
@@ -52,7 +52,7 @@ count-same f h (suc n) e = rw (count-same f h n (λ v l. e v (omega arith)), e n
 -- The line of one length more.
 next-line : (g n : ℕ) (table : List ℕ) {from w c : ℕ} → from ≡ powers g n → w ≡ g ^ (n + 1)
     → c ≡ countOf (λ v. bitAt table (from + v)) w
-    → countLines g (standing g table) (n + 1) ≡ countLines g (standing g table) n ++ countLine (n + 1) c
+    → countLines g (standing g table) (n + 1) ≡ countLines g (standing g table) n ++ pairLine (n + 1) c
 unfolding countLines standing
 next-line g n table e f h =
     let same = count-same (λ v. bitAt table (position g (digits g (suc n) v))) (λ v. bitAt table (powers g n + v)) (g ^ suc n)
@@ -84,13 +84,13 @@ module _ {g longest : ℕ} {table s₀ s : List ℕ} {at next from n : ℕ} (d :
       (omega (arith, rw add-one at e, d .begins), d .fills .bits)
 
   -- .. there is room for its line ..
-  pub tabled-room : n < longest → {c w : ℕ} → c ≤ w → w ≤ fullLines → next + length (countLine (n + 1) c) ≤ length s
+  pub tabled-room : n < longest → {c w : ℕ} → c ≤ w → w ≤ fullLines → next + length (pairLine (n + 1) c) ≤ length s
   tabled-room h {c} k l =
       omega (arith, count-short (n + 1) c (omega (arith, d .fills .most)) (omega arith), d .low, d .room, d .size)
 
   -- .. which is put ..
   pub tabled-next : n < longest → {s′ : List ℕ} {next′ c w : ℕ} → w ≡ g ^ (n + 1) → w ≤ fullLines → c ≤ w
-      → c ≡ countOf (λ v. bitAt table (from + v)) w → Put s s′ next next′ (countLine (n + 1) c)
+      → c ≡ countOf (λ v. bitAt table (from + v)) w → Put s s′ next next′ (pairLine (n + 1) c)
       → Tabled g longest table s₀ s′ at next′ (from + w) (n + 1)
   unfolding powers
   tabled-next h {c = c} e k l f p =
@@ -101,7 +101,7 @@ module _ {g longest : ℕ} {table s₀ s : List ℕ} {at next from n : ℕ} (d :
         room = d .room;
         put = rw (next-line g n table (d .begins) e f) (d .put then p);
         begins = rw (add-one, ← d .begins, ← add-one, ← e);
-        size = rw (p .stored) (length-sets s next (countLine (n + 1) c) ∙ d .size);
+        size = rw (p .stored) (length-sets s next (pairLine (n + 1) c) ∙ d .size);
         low = omega (arith, p .ends, d .low);
       }
 

@@ -6,7 +6,9 @@ use Prim.Native.Nat.{ℕ, zero, suc, _+_, _*_, _≤_, _<_}
 use native.Mathlib.Nat.{pow-le-pow-left}
 use native.Mathlib.Omega.{arith}
 use lib.ListN.{length, length-append}
+use Rattle.model.specs.declared.Depths.{Depths}
 use Rattle.model.specs.declared.Model.{Model}
+use Rattle.model.specs.Depths.{depthsOf}
 use Rattle.model.specs.Fits.{Fits}
 use Rattle.model.specs.Lines.{powers}
 use Rattle.model.specs.Results.{accepted}
@@ -19,10 +21,10 @@ use Rattle.model.proofs.Inside.{applies-iff}
 use Rattle.model.proofs.Results.{through}
 use Rattle.model.proofs.Steps.{stepped}
 use Rattle.costs.specs.Lanes.{fullLines}
-use Rattle.report.specs.Prints.{longestText}
-use Rattle.text.specs.Text.{line}
+use Rattle.depths.proofs.Climbing.{legal, depth-most}
+use Rattle.report.specs.Prints.{textRoom}
 use Rattle.text.proofs.Numbers.{digits-1, digits-2, digits-4, length-line}
-use Rattle.report.specs.Text.{stepLine, stepLines, countLine, foundWord}
+use Rattle.report.specs.Text.{stepLine, stepLines, pairLine, foundLine}
 
 few-rules : {m : Model} → Fits m → (i : ThreadId) → threadOf i m .count ≤ 64
 few-rules f A = f .a .count
@@ -48,17 +50,27 @@ walk-short {m} f (s ∷ ss) c e =
     let rest = walk-short f ss (t .0) (t .2) in
     simp length-append (omega arith)
 
--- The whole text of a schedule.
-pub found-short : {m : Model} {ss : List Step} {n q : ℕ} {σ : Stacks} → Fits m → Leads m ss q σ → length ss ≡ n → n ≤ mostSteps
-    → length (line foundWord n ++ stepLines ss) ≤ longestText
-found-short {m} {ss} {n} f l e h =
-    let steps = walk-short f ss _ (l .walked) in
-    let head = digits-4 n (omega arith) in
+-- The line of Found has at most 21: its depths are at most one more than its steps.
+head-short : (n : ℕ) (d : Depths) → n ≤ mostSteps → d .a ≤ n + 1 → d .b ≤ n + 1 → length (foundLine n d) ≤ 21
+unfolding foundLine pairLine
+head-short n d h x y =
+    let steps = digits-4 n (omega arith) in
+    let a = digits-4 (d .a) (omega arith) in
+    let b = digits-4 (d .b) (omega arith) in
     simp (length-append, length-line) (omega arith)
 
+-- The whole text of a schedule.
+pub found-short : {m : Model} {ss : List Step} {n q : ℕ} {σ : Stacks} → Fits m → Leads m ss q σ → length ss ≡ n → n ≤ mostSteps
+    → length (foundLine n (depthsOf m ss) ++ stepLines ss) ≤ textRoom
+found-short {m} {ss} {n} f l e h =
+    let known = legal f (l .walked) in
+    let steps = walk-short f ss _ (l .walked) in
+    let head = head-short n (depthsOf m ss) h (omega (arith, depth-most A known)) (omega (arith, depth-most B known)) in
+    simp length-append (omega arith)
+
 -- The line of a length.
-pub count-short : (n c : ℕ) → n < 10 → c ≤ fullLines → length (countLine n c) ≤ 7
-unfolding countLine
+pub count-short : (n c : ℕ) → n < 10 → c ≤ fullLines → length (pairLine n c) ≤ 7
+unfolding pairLine
 count-short n c h k = simp (length-append, length-line) (omega (arith, digits-1 n h, digits-4 c (omega arith)))
 
 -- Up to six states below 4 give 5,460 lines.

@@ -6,9 +6,9 @@ use Prim.Native.Nat.{ℕ, _*_, _≤_, _<_}
 use native.Mathlib.Omega.{arith}
 use lib.Dec.{leb}
 use lib.ListN.{length, take}
+use Rattle.model.specs.declared.Depths.{Depths}
 use Rattle.model.specs.declared.Model.{Model}
 use Rattle.model.specs.Results.{refused, accepted}
-use Rattle.model.specs.Runs.{Reaches}
 use Rattle.model.specs.Schedules.{stepsOf, Stored, mostSteps, mostBytes}
 use Rattle.model.specs.Tables.{bytesFor, tableFits, LineTable}
 use Rattle.model.specs.Valid.{Valid}
@@ -22,12 +22,12 @@ use Rattle.record.specs.declared.Answer.the-variants.{Accepted, Refused}
 use Rattle.record.specs.declared.Reading.{Reading}
 use Rattle.record.specs.Held.{readingOf}
 use Rattle.record.specs.Reader.{Read}
-use Rattle.judge.specs.Answer.{refusalOf}
-use Rattle.report.specs.Prints.{Told, TextFor, longestText}
+use Rattle.judge.specs.Answer.{refusalOf, Witness}
+use Rattle.report.specs.Prints.{Told, TextFor, textRoom}
 use Rattle.report.specs.Table.{standing, Fills}
 use Rattle.text.specs.Text.{line}
 use Rattle.text.proofs.Numbers.{digits-4, length-line}
-use Rattle.report.specs.Text.{refusedWord, foundWord, clearLine, longLine, stepLines, countLines}
+use Rattle.report.specs.Text.{refusedWord, foundLine, clearLine, longLine, stepLines, countLines}
 use Rattle.report.proofs.Sizes.{powers-low, found-short}
 
 -- A valid model is not refused by the judge where the stores have 683 and 8,190 bytes.
@@ -62,22 +62,24 @@ tells-clear {m} {table = table} j t =
     }
 
 -- There is room for the text of the schedule.
-pub found-room : {m : Model} {n : ℕ} {old new : List ℕ} → Valid m → n ≤ mostSteps → (s : Stored (Reaches m) n 0 old new) → 2 * n ≤ length old
-    → length (line foundWord n ++ stepLines (stepsOf (take (2 * n) new))) ≤ longestText
-found-room {m} v h s l = rw (stored-steps s l) (found-short (valid-fits m .0 v) (s .run .leads) (s .count) h)
+pub found-room : {m : Model} {n : ℕ} {depths : Depths} {old new : List ℕ} → Valid m → n ≤ mostSteps
+    → (s : Stored (Witness m depths) n 0 old new) → 2 * n ≤ length old
+    → length (foundLine n depths ++ stepLines (stepsOf (take (2 * n) new))) ≤ textRoom
+found-room {m} v h s l =
+    rw (stored-steps s l, s .run .deep) (found-short (valid-fits m .0 v) (s .run .reaches .leads) (s .count) h)
 
 -- The line of a refusal is short.
 pub refused-short : (n : ℕ) → n < 256 → length (line refusedWord n) ≤ 13
 refused-short n h = omega (arith, length-line refusedWord n, digits-4 n (omega arith))
 
 -- The text of a model that is Found.
-pub tells-found : {m : Model} {n : ℕ} {ss : List Step} {old new : List ℕ} → Judged m (found n) → (s : Stored (Reaches m) n 0 old new)
-    → ss ≡ s .steps → Told m (line foundWord n ++ stepLines ss)
+pub tells-found : {m : Model} {n : ℕ} {depths : Depths} {ss : List Step} {old new : List ℕ} → Judged m (found n)
+    → (s : Stored (Witness m depths) n 0 old new) → ss ≡ s .steps → Told m (foundLine n depths ++ stepLines ss)
 tells-found {n = n} j s e =
     record {
       verdict = found n;
       judged = j;
-      tells = record { steps = s .steps; run = s .run; count = s .count; shown = rw e };
+      tells = record { steps = s .steps; run = s .run .reaches; count = s .count; shown = rw (e, s .run .deep) };
     }
 
 -- The text of a model that is Long.

@@ -7,6 +7,7 @@ use Prim.Native.Nat.{ℕ, _*_, _≤_, _<_}
 use lib.Dec.{T}
 use lib.ListN.{length, drop}
 use Rattle.model.specs.declared.Model.{Model}
+use Rattle.model.specs.Depths.{depthsOf}
 use Rattle.model.specs.Lines.{Line}
 use Rattle.model.specs.Results.{refused, accepted}
 use Rattle.model.specs.Runs.{Reaches, Marked}
@@ -14,7 +15,7 @@ use Rattle.model.specs.Schedules.{Shown}
 use Rattle.model.specs.Verdict.{Verdict, clear, long, found, Judged}
 use Rattle.record.specs.Reader.{Read, readOf}
 use Rattle.text.specs.Text.{line}
-use Rattle.report.specs.Text.{refusedWord, foundWord, clearLine, longLine, stepLines, countLines}
+use Rattle.report.specs.Text.{refusedWord, foundLine, clearLine, longLine, stepLines, countLines}
 
 -- The text of Clear: `clear`, and for each length from 1 to 2K how many lines of that length are marked. The lines that are
 -- counted are those of a set that has just the marked ones.
@@ -23,9 +24,10 @@ pub record Counts (m : Model) (text : List ℕ) : Type 0 where
   pub marks : (line : List ℕ) → Line (m .g) (m .k) line → T (has line) ↔ Marked m line
   pub same : text ≡ clearLine ++ countLines (m .g) has (2 * m .k)
 
--- The text of Found: `found`, the number of steps, and the lines of some schedule of so many steps that reaches the target.
+-- The text of Found: some schedule of so many steps that reaches the target, told by a line with the number of steps and its depths, and
+-- a line for each step.
 abbrev pub Lists : Model → ℕ → List ℕ → Type 0
-Lists m n text = Shown (Reaches m) n (λ ss. text ≡ line foundWord n ++ stepLines ss)
+Lists m n text = Shown (Reaches m) n (λ ss. text ≡ foundLine n (depthsOf m ss) ++ stepLines ss)
 
 -- The text of a verdict on a model.
 abbrev pub Tells : Model → Verdict → List ℕ → Type 0
@@ -56,11 +58,11 @@ pub record Begins (Kind : List ℕ → Type 0) (r : ℕ) (old new : List ℕ) : 
   pub room : r ≤ length new
   pub stored : new ≡ text ++ drop r old
 
--- The longest text has so many bytes: `found 4095` and 4,095 lines of seven bytes.
-abbrev pub longestText : ℕ
-longestText = 28676
+-- The bytes that a store needs. No text has more: `found 4095` with two depths of four digits, and 4,095 lines of seven bytes.
+abbrev pub textRoom : ℕ
+textRoom = 28686
 
--- What the call answers and leaves in the store: the text where there is room for the longest; else 0, and what it held.
+-- What the call answers and leaves in the store: the text where there is room for any; else 0, and what it held.
 pub data Reports (bytes : List ℕ) (r : ℕ) (old new : List ℕ) : Type 0 where
-  text : longestText ≤ length old → Begins (Prints bytes) r old new → Reports bytes r old new
-  short : length old < longestText → r ≡ 0 → new ≡ old → Reports bytes r old new
+  text : textRoom ≤ length old → Begins (Prints bytes) r old new → Reports bytes r old new
+  short : length old < textRoom → r ≡ 0 → new ≡ old → Reports bytes r old new

@@ -2,7 +2,7 @@
 ghost use Prim.Native.Nat.{_≤_};
 ghost use lib.ListN.{length};
 ghost use Rattle.model.specs.Valid.{Valid};
-ghost use Rattle.report.specs.Prints.{Told, Prints, Begins, longestText, Reports};
+ghost use Rattle.report.specs.Prints.{Told, Prints, Begins, textRoom, Reports};
 use judge::Judgement;
 use model::MOST_BYTES;
 use model::Model;
@@ -10,16 +10,16 @@ use record::Answer;
 
 mod lines;
 
-// The bytes of the longest text.
-const LONGEST_TEXT: usize = 28676;
+// The bytes that a store needs: no text has more.
+const TEXT_ROOM: usize = 28686;
 
 // Puts the text for the bytes of a record at the front of a store, and answers how many bytes it has; 0, with the store as it was,
-// where the store is shorter than the longest text.
+// where the store is shorter than a text can be.
 pub fn report(bytes: &[u8], store: &mut [u8]) -> usize
     ensures text { λ r. ⌜ Reports (now (bytes .entry)) r (now (store .entry)) (now (store .exit)) ⌝ }
     ensures within { λ r. ⌜ r ≤ length (now (store .exit)) ⌝ }
 {
-    if store.len() < LONGEST_TEXT {
+    if store.len() < TEXT_ROOM {
         return 0;
     }
     put_report(bytes, store)
@@ -27,7 +27,7 @@ pub fn report(bytes: &[u8], store: &mut [u8]) -> usize
 
 // The same into a store that has room.
 fn put_report(bytes: &[u8], store: &mut [u8]) -> usize
-    requires { ⌜ longestText ≤ length (now store) ⌝ }
+    requires { ⌜ textRoom ≤ length (now store) ⌝ }
     ensures { λ r. ⌜ Begins (Prints (now (bytes .entry))) r (now (store .entry)) (now (store .exit)) ⌝ }
 {
     let reading = record::read(bytes);
@@ -40,7 +40,7 @@ fn put_report(bytes: &[u8], store: &mut [u8]) -> usize
 
 // The text of the verdict on a model.
 fn judged(m: Model, store: &mut [u8]) -> usize
-    requires { ⌜ Valid m ⌝ ∗ ⌜ longestText ≤ length (now store) ⌝ }
+    requires { ⌜ Valid m ⌝ ∗ ⌜ textRoom ≤ length (now store) ⌝ }
     ensures { λ r. ⌜ Begins (Told m) r (now (store .entry)) (now (store .exit)) ⌝ }
 {
     let mut table = [0u8; 683];
@@ -48,9 +48,9 @@ fn judged(m: Model, store: &mut [u8]) -> usize
     match judge::judge(m, &mut table, &mut schedule) {
         Judgement::Clear => lines::put_clear(store, m.g, m.k, &table),
         Judgement::Long => text::put(store, 0, b"long\n"),
-        Judgement::Found(n) => {
+        Judgement::Found(n, depths) => {
             let end = 2 * n as usize;
-            lines::put_found(store, n, &schedule[..end])
+            lines::put_found(store, n, depths, &schedule[..end])
         }
         // No valid model is refused where the stores have room.
         Judgement::Refused(n) => n as usize,

@@ -1,4 +1,4 @@
-// The lines below a verdict: the steps of a schedule, and how many lines of each length are marked.
+// The lines of a verdict: Found with the steps of a schedule, and Clear with how many lines of each length are marked.
 ghost use mathlib.Core.List.{_++_};
 ghost use mathlib.Core.Path.{_≡_};
 ghost use Prim.Native.Nat.{_+_, _*_, _≤_, _<_};
@@ -7,18 +7,29 @@ ghost use Rattle.model.specs.Bits.{bit as bitOf, bitAt, oneIf};
 ghost use Rattle.model.specs.Schedules.{stepsOf};
 ghost use Rattle.writer.specs.Put.{Put};
 ghost use Rattle.report.specs.Table.{Fills, standing};
-ghost use Rattle.text.specs.Text.{line};
-ghost use Rattle.report.specs.Text.{foundWord, clearLine, stepLine, stepLines, countOf, countLine, countLines};
+ghost use Rattle.report.specs.Text.{foundLine, clearLine, stepLine, stepLines, countOf, pairLine, countLines};
 use costs::parts;
+use model::Depths;
 
-// Puts `found`, the number of steps, and a line for each step of a schedule.
-pub fn put_found(store: &mut [u8], n: u64, schedule: &[u8]) -> usize
-    requires { ⌜ length (line foundWord n ++ stepLines (stepsOf (now schedule))) ≤ length (now store) ⌝ }
+// Puts the line of Found, and a line for each step of a schedule.
+pub fn put_found(store: &mut [u8], n: u64, depths: Depths, schedule: &[u8]) -> usize
+    requires { ⌜ length (foundLine n depths ++ stepLines (stepsOf (now schedule))) ≤ length (now store) ⌝ }
     ensures { λ r. ⌜ Put (now (store .entry)) (now (store .exit)) 0 r
-        (line foundWord n ++ stepLines (stepsOf (now (schedule .entry)))) ⌝ }
+        (foundLine n depths ++ stepLines (stepsOf (now (schedule .entry)))) ⌝ }
 {
-    let at = text::put_line(store, 0, b"found ", n);
+    let at = put_head(store, n, depths);
     put_steps(store, at, schedule)
+}
+
+// Puts `found`, the number of steps and both depths.
+fn put_head(store: &mut [u8], n: u64, depths: Depths) -> usize
+    requires { ⌜ length (foundLine n depths) ≤ length (now store) ⌝ }
+    ensures { λ r. ⌜ Put (now (store .entry)) (now (store .exit)) 0 r (foundLine n depths) ⌝ }
+{
+    let steps = text::put(store, 0, b"found ");
+    let blank = text::put_number(store, steps, n);
+    let pair = text::put(store, blank, b" ");
+    put_pair(store, pair, depths.a, depths.b)
 }
 
 // Puts a line for each step of a schedule.
@@ -73,19 +84,19 @@ fn put_counts(store: &mut [u8], at: usize, g: usize, longest: usize, table: &[u8
         n += 1;
         let lines = parts::power(g, n);
         let marked = count(table, from, lines);
-        next = put_count(store, next, n, marked);
+        next = put_pair(store, next, n, marked);
         from += lines;
     }
     next
 }
 
-// Puts the line of a length.
-fn put_count(store: &mut [u8], at: usize, n: usize, marked: usize) -> usize
-    requires { ⌜ at + length (countLine n marked) ≤ length (now store) ⌝ }
-    ensures { λ r. ⌜ Put (now (store .entry)) (now (store .exit)) at r (countLine n marked) ⌝ }
+// Puts a line of two numbers.
+fn put_pair(store: &mut [u8], at: usize, x: usize, y: usize) -> usize
+    requires { ⌜ at + length (pairLine x y) ≤ length (now store) ⌝ }
+    ensures { λ r. ⌜ Put (now (store .entry)) (now (store .exit)) at r (pairLine x y) ⌝ }
 {
-    let next = text::put_number(store, at, n as u64);
-    text::put_line(store, next, b" ", marked as u64)
+    let next = text::put_number(store, at, x as u64);
+    text::put_line(store, next, b" ", y as u64)
 }
 
 // How many bits of a line table stand, of n from a place on.

@@ -24,7 +24,7 @@ fn main() {
 
 // Prints what is to be said of the bytes of a record.
 fn print_report(bytes: &[u8]) {
-    let mut text = [0u8; 28676];
+    let mut text = [0u8; 28686];
     let size = report::report(bytes, &mut text);
     io::write_all(STDOUT_FILENO, &text[0..size]);
 }

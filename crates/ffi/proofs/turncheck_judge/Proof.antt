@@ -1,7 +1,8 @@
--- `turncheck_judge` meets its contract: the number is that of the reader or of the judge, whose steps are at most 4,095.
+-- `turncheck_judge` meets its contract: the number is that of the reader or of the judge, whose steps and depths fit in their fields.
 use borrow.Author.Needs.{needs}
 use mathlib.Core.Path.{refl}
 use native.Mathlib.Omega.{arith}
+use Rattle.ffi.proofs.Ranges.{found-fits}
 use Rattle.ffi.proofs.Records.{was-read, was-refused, answered}
 use Rattle.ffi.proofs.Replies.{alone, says-refused}
 use Rattle.ffi.proofs.turncheck_judge.Statement.{statement}
@@ -25,10 +26,12 @@ enum-told-3 c = search needs
 enum-known-n : tie.Need-enum-known-n
 enum-known-n c = search needs
 
-with-field-requires : tie.Need-with-field-requires
-with-field-requires c κs =
-    let told = rw (c .before .n .given .1) at (c .before .before .before .before .before .before .before .judge .ensures .0) in
-    (omega arith, omega (arith, told .1 .0))
+with-depths-requires : tie.Need-with-depths-requires
+with-depths-requires c κs =
+    let arm = c .before .before .before .before .before .before .before .before .before .before in
+    let m = was-read _ (arm .before .before .read .ensures) (arm .enum-told .given .1) in
+    let told = rw (c .before .n .given .1) at (c .before .before .before .before .before .before .before .judge .ensures) in
+    (omega arith, found-fits (m .valid) (omega (arith, told .0 .1 .0)) (told .0 .1 .0) (told .1 .1))
 
 enum-known-n-2 : tie.Need-enum-known-n-2
 enum-known-n-2 c = search needs
@@ -82,7 +85,7 @@ returns-3 c =
     let m = was-read _ (arm .before .before .read .ensures) (arm .enum-told .given .1) in
     rw (m .read)
     (answered (m .valid) (c .before .before .n .given .1)
-    (c .before .before .before .before .before .before .before .before .judge .ensures) (c .with-field .ensures))
+    (c .before .before .before .before .before .before .before .before .judge .ensures) (c .with-depths .ensures))
 
 same-length-7 : tie.Need-same-length-7
 same-length-7 c = search needs
@@ -113,7 +116,7 @@ turncheck-judge-spec =
     enum-told-2
     enum-told-3
     enum-known-n
-    with-field-requires
+    with-depths-requires
     enum-known-n-2
     cast-result
     enum-known-answer

@@ -1,10 +1,11 @@
 -- `told` meets its contract: the best line's steps are the least of the runs that reach the target, and its schedule is one
--- of them.
-use mathlib.Core.Path.{refl}
+-- of them, so that its depths can be read off it.
+use mathlib.Core.Path.{refl, sym}
 use native.Mathlib.Omega.{arith}
+use lib.Seq.{length-take-le}
 use borrow.Author.Needs.{needs}
 use Rattle.judge.proofs.Reaching.{reaching, judged-clear, judged-long, judged-found}
-use Rattle.judge.proofs.Schedules.{best-low, best-chosen, best-scheduled}
+use Rattle.judge.proofs.Schedules.{best-low, best-chosen, best-scheduled, stored-legal, stored-witness}
 use Rattle.judge.proofs.told.Statement.{statement}
 use Rattle.judge.proofs.told.Tie as tie
 
@@ -46,14 +47,36 @@ write-requires c κs =
 cast-steps : tie.Need-cast-steps
 cast-steps c = search needs
 
+cast-end : tie.Need-cast-end
+cast-end c = search needs
+
+mul-end : tie.Need-mul-end
+mul-end c = search needs
+
+slice-reshare-prefix-depths : tie.Need-slice-reshare-prefix-depths
+slice-reshare-prefix-depths c =
+    let pre = c .before .before .before .before .before .before .before .before .before .before .before .before .before .before .before .pre in
+    omega (arith, pre .1 .0 .2)
+
+slice-aggregate-depths : tie.Need-slice-aggregate-depths
+slice-aggregate-depths c =
+    let pre = c .before .before .before .before .before .before .before .before .before .before .before .before .before .before .before .before .pre in
+    sym (length-take-le _ _ (omega (arith, pre .1 .0 .2)))
+
+depths-requires : tie.Need-depths-requires
+depths-requires c κs =
+    let pre = c .before .before .before .before .before .before .before .before .before .before .before .before .before .before .before .before .pre in
+    stored-legal (best-scheduled (pre .0) (pre .1 .1 .1) (omega arith) refl (c .before .before .before .before .before .write .ensures)) (omega (arith, pre .1 .0 .2)) (pre .0)
+
 same-length : tie.Need-same-length
 same-length c = search needs
 
 returns-3 : tie.Need-returns-3
 returns-3 c =
-    let pre = c .before .before .before .before .before .before .before .before .before .before .before .before .before .before .pre in (
+    let pre = c .before .before .before .before .before .before .before .before .before .before .before .before .before .before .before .before .before .pre in
+    let written = best-scheduled (pre .0) (pre .1 .1 .1) (omega arith) refl (c .before .before .before .before .before .before .write .ensures) in (
       (refl, judged-found (reaching (pre .0) (pre .1 .1 .0) (pre .1 .1 .1)) (omega arith)),
-      best-scheduled (pre .0) (pre .1 .1 .1) (omega arith) refl (c .before .before .before .write .ensures),
+      stored-witness written (omega (arith, pre .1 .0 .2)) (c .depths .ensures),
     )
 
 pub told-spec : {M : Type 1} → statement M
@@ -68,5 +91,10 @@ told-spec =
     shared-slice-read-write-2
     write-requires
     cast-steps
+    cast-end
+    mul-end
+    slice-reshare-prefix-depths
+    slice-aggregate-depths
+    depths-requires
     same-length
     returns-3)

@@ -44,6 +44,9 @@ part-agrees-start c = search needs
 part-agrees-end : tie.Need-part-agrees-end Inv-loop μ-loop
 part-agrees-end c = search needs
 
+stored-requires : tie.Need-stored-requires Inv-loop μ-loop
+stored-requires c κs = search needs
+
 sub-agrees-2 : tie.Need-sub-agrees-2 Inv-loop μ-loop
 sub-agrees-2 c = search needs
 
@@ -88,6 +91,7 @@ corpus-spec =
     sub-agrees
     part-agrees-start
     part-agrees-end
+    stored-requires
     sub-agrees-2
     part-agrees-start-2
     part-agrees-end-2

@@ -1,7 +1,8 @@
--- `replay` meets its contract: its tests are the definition's, in order, and `steps` walks the schedule from the start.
+-- `replay` meets its contract: its tests are the definition's, in order, `steps` walks the schedule from the start, and what it walks to
+-- the end is legal, so that `depths` takes it.
 use native.Mathlib.Omega.{arith}
 use borrow.Author.Needs.{needs}
-use Rattle.replay.proofs.Answers.{faulty, counted, uneven, too-long, walked}
+use Rattle.replay.proofs.Answers.{faulty, counted, uneven, too-long, walked, walked-legal}
 use Rattle.replay.proofs.replay.Statement.{statement}
 use Rattle.replay.proofs.replay.Tie as tie
 
@@ -53,16 +54,24 @@ at-target-requires c κs =
     let start = walk .before .before .before .before .before .start .ensures in
     (omega (arith, grown .0, start .first), omega (arith, grown .1, start .second))
 
+depths-requires : tie.Need-depths-requires
+depths-requires c κs =
+    let walk = c .before .before .before .before .before .before .before .before in
+    let tests = walk .before .before .before .before .before .before .before .before in
+    walked-legal _ (tests .before .before .before .fault .ensures) (tests .before .before .if1 .left)
+    (rw (c .before .before .before .before .w .given .1, walk .before .before .before .before .before .start .ensures .config) at (walk .steps .ensures .0))
+
 enum-known-n : tie.Need-enum-known-n
 enum-known-n c = search needs
 
 returns-4 : tie.Need-returns-4
 returns-4 c =
-    let walk = c .before .before .before .before .before .before .before .before in
+    let ends = c .before in
+    let walk = ends .before .before .before .before .before .before .before .before in
     let tests = walk .before .before .before .before .before .before .before .before in
-    rw (c .at-target .ensures)
+    rw (ends .at-target .ensures, c .depths .ensures)
     (walked _ _ (tests .before .before .before .fault .ensures) (tests .before .before .if1 .left) (tests .before .if2 .left) (tests .if3 .left)
-    (rw (c .before .before .before .before .w .given .1, walk .before .before .before .before .before .start .ensures .config) at (walk .steps .ensures .0)))
+    (rw (ends .before .before .before .before .w .given .1, walk .before .before .before .before .before .start .ensures .config) at (walk .steps .ensures .0)))
 
 returns-5 : tie.Need-returns-5
 returns-5 c =
@@ -89,6 +98,7 @@ replay-spec =
     slice-aggregate-at-target
     slice-aggregate-at-target-2
     at-target-requires
+    depths-requires
     enum-known-n
     returns-4
     returns-5)

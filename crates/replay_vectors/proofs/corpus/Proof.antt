@@ -1,5 +1,5 @@
--- `corpus` is safe and ends: each case ends past the place where it starts, and within the file.
-use Prim.Native.Nat.{_+_, _-_}
+-- `corpus` is safe and ends: each case ends past the place where it starts.
+use Prim.Native.Nat.{_-_}
 use lib.ListN.{length}
 use borrow.Author.Needs.{needs}
 use Rattle.replay_vectors.proofs.corpus.Statement.{statement}
@@ -9,7 +9,7 @@ abbrev Inv-loop : tie.InvT-loop
 Inv-loop s t₀ at₀ t at = Unit {0}
 
 abbrev μ-loop : tie.MeasureT-loop
-μ-loop s t₀ at₀ t at = (length s + 3) - at
+μ-loop s t₀ at₀ t at = length s - at
 
 new-requires : tie.Need-new-requires Inv-loop μ-loop
 new-requires c κs = search needs
@@ -22,6 +22,9 @@ part-at-requires c κs = search needs
 
 part-at-requires-2 : tie.Need-part-at-requires-2 Inv-loop μ-loop
 part-at-requires-2 c κs = search needs
+
+add-next : tie.Need-add-next Inv-loop μ-loop
+add-next c = search needs
 
 byte-after-requires : tie.Need-byte-after-requires Inv-loop μ-loop
 byte-after-requires c κs = search needs
@@ -50,6 +53,18 @@ part-agrees-end-2 c = search needs
 byte-at-requires : tie.Need-byte-at-requires Inv-loop μ-loop
 byte-at-requires c κs = search needs
 
+add-number-at : tie.Need-add-number-at Inv-loop μ-loop
+add-number-at c = search needs
+
+number-at-requires : tie.Need-number-at-requires Inv-loop μ-loop
+number-at-requires c κs = search needs
+
+add-number-at-2 : tie.Need-add-number-at-2 Inv-loop μ-loop
+add-number-at-2 c = search needs
+
+number-at-requires-2 : tie.Need-number-at-requires-2 Inv-loop μ-loop
+number-at-requires-2 c κs = search needs
+
 agrees-requires : tie.Need-agrees-requires Inv-loop μ-loop
 agrees-requires c κs = search needs
 
@@ -58,9 +73,6 @@ counted-requires c κs = search needs
 
 returns : tie.Need-returns Inv-loop μ-loop
 returns c = search needs
-
-add-at : tie.Need-add-at Inv-loop μ-loop
-add-at c = search needs
 
 loop-less : tie.Need-loop-less Inv-loop μ-loop
 loop-less c = search needs
@@ -81,6 +93,7 @@ corpus-spec =
     loop-holds
     part-at-requires
     part-at-requires-2
+    add-next
     byte-after-requires
     byte-after-requires-2
     sub-agrees
@@ -90,10 +103,13 @@ corpus-spec =
     part-agrees-start-2
     part-agrees-end-2
     byte-at-requires
+    add-number-at
+    number-at-requires
+    add-number-at-2
+    number-at-requires-2
     agrees-requires
     counted-requires
     returns
-    add-at
     loop-less
     loop-again
     returns-2)

@@ -24,8 +24,8 @@ power-requires c κs = search needs
 count-requires : tie.Need-count-requires Inv-loop μ-loop
 count-requires c κs = tabled-bits (c .before .before .loop .inv) (c .before .loop-test .taken) (c .power .ensures .0)
 
-put-count-requires : tie.Need-put-count-requires Inv-loop μ-loop
-put-count-requires c κs =
+put-pair-requires : tie.Need-put-pair-requires Inv-loop μ-loop
+put-pair-requires c κs =
     let power = c .before .before in
     let test = power .before in
     tabled-room (test .before .loop .inv) (test .loop-test .taken) (c .before .count .ensures .1) (power .power .ensures .1)
@@ -45,7 +45,7 @@ loop-again c =
     let power = c .before .before .before .before .before in
     let test = power .before in
     tabled-next (test .before .loop .inv) (test .loop-test .taken) (power .power .ensures .0) (power .power .ensures .1)
-    (count .1) (count .0) (c .before .before .put-count .ensures)
+    (count .1) (count .0) (c .before .before .put-pair .ensures)
 
 same-length : tie.Need-same-length Inv-loop μ-loop
 same-length c = search needs
@@ -63,7 +63,7 @@ put-counts-spec =
     add-n
     power-requires
     count-requires
-    put-count-requires
+    put-pair-requires
     add-from
     loop-less
     loop-again
