@@ -1,5 +1,5 @@
-// Before anything is timed: both sides must say the same of a model, and each schedule must reach the target on both, not before its
-// last step and as deep as its verdict says, and give the same page; and both must make the same one of two models.
+// Before anything is timed: both sides must say the same of a model and write the same schedule, which must reach the target on both, not
+// before its last step and as deep as the verdict says, and give the same page; and both must make the same one of two models.
 use crate::{numbers, proved, reference};
 
 pub fn agree(record: &[u8]) -> Result<(), String> {
@@ -8,27 +8,29 @@ pub fn agree(record: &[u8]) -> Result<(), String> {
         return Err(format!("read says {} and {}", read.0, read.1));
     }
     let mut stores = [[0; 683]; 4];
-    let mut schedules = [[0; 8190]; 2];
+    let mut schedules = [[0xAA; 8190]; 2];
     let [a, b, c, d] = &mut stores;
     let [x, y] = &mut schedules;
-    let verdicts = [proved::judge(record, a, x), reference::judge(record, b, y)];
-    let verdict = numbers::verdict(verdicts[0]);
-    if verdict != numbers::verdict(verdicts[1]) || numbers::kind(verdict) < numbers::CLEAR {
-        return Err(format!("judge says {} and {}", verdicts[0], verdicts[1]));
+    let verdicts = (proved::judge(record, a, x), reference::judge(record, b, y));
+    let verdict = verdicts.0;
+    if verdict != verdicts.1 || numbers::kind(verdict) < numbers::CLEAR {
+        return Err(format!("judge says {} and {}", verdict, verdicts.1));
+    }
+    // the whole stores: there is one least schedule, and no byte behind it is written
+    if schedules[0] != schedules[1] {
+        return Err("the schedules differ".to_string());
     }
     let lines = (proved::lines(record, c), reference::lines(record, d));
     if lines != (numbers::DONE, numbers::DONE) || stores.iter().any(|store| *store != stores[0]) {
         return Err("the line tables differ".to_string());
     }
     if numbers::kind(verdict) == numbers::FOUND {
-        for (schedule, found) in schedules.iter().zip(verdicts) {
-            same_schedule(record, &schedule[..2 * numbers::steps(found)], found)?;
-        }
+        same_schedule(record, &schedules[0][..2 * numbers::steps(verdict)], verdict)?;
     }
     same_page(record, &[])
 }
 
-// The schedule that one side wrote, and the Found that it answered. The other side's schedule may be another, of other depths.
+// The schedule that both sides wrote, and the Found that they answered.
 fn same_schedule(record: &[u8], steps: &[u8], found: u64) -> Result<(), String> {
     let last = same_replay(record, steps, &[numbers::REACHED])?;
     if numbers::depths(last) != numbers::depths(found) {

@@ -1,4 +1,4 @@
-// Times the proved library beside an unproved program of the same algorithm, but for merging, on fixed models, and prints two tables.
+// Times the proved library beside an unproved program of the same algorithm, but for merging, on fixed models, and prints three tables.
 mod compare;
 mod models;
 mod numbers;
@@ -57,7 +57,8 @@ fn main() {
     let topped = models::topped();
     let held = models::held();
     let grown = GROWTH.map(|(k, rules)| models::grown(k, rules));
-    for family in fixed.iter().chain(&topped).chain(&held).chain(&grown).chain(&models::untimed()) {
+    let tied = models::ties();
+    for family in fixed.iter().chain(&topped).chain(&held).chain(&grown).chain(&tied).chain(&models::untimed()) {
         for (i, record) in family.records.iter().enumerate() {
             if let Err(what) = compare::agree(record) {
                 eprintln!("error: {}, model {i}: {what}", family.name);
@@ -82,6 +83,8 @@ fn main() {
     for ((k, rules), family) in GROWTH.iter().zip(&grown) {
         rows.push(Row::new(format!("{k} | {rules}+{rules}"), judgement, family));
     }
+    let second = rows.len();
+    rows.extend(tied.iter().map(|family| Row::new(family.name.clone(), judgement, family)));
     for round in 1..=ROUNDS {
         for row in &mut rows {
             row.measure(round);
@@ -92,7 +95,9 @@ fn main() {
     println!("| Call | Models | {HEAD}");
     rows[..first].iter().for_each(Row::print);
     println!("\n| K | Rules | {HEAD}");
-    rows[first..].iter().for_each(Row::print);
+    rows[first..second].iter().for_each(Row::print);
+    println!("\n| Judgement | Best lines | Steps | Proved | Unproved | Ratio |\n|---|---|---|---|---|---|");
+    rows[second..].iter().for_each(Row::print_ties);
 }
 
 // A line on a terminal that is written over by the next.
@@ -125,6 +130,15 @@ impl Row {
         let (plain_median, plain_worst) = summed(self.pairs.iter().map(|p| p.plain).collect());
         let times = [median, worst, plain_median, plain_worst].map(shown).join(" | ");
         println!("| {} | {} | {times} | {:.2} |", self.name, self.cases.len(), median / plain_median);
+    }
+
+    // Each model of the row by itself, with how many best lines it has and the steps of their schedules.
+    fn print_ties(&self) {
+        for (case, pair) in self.cases.iter().zip(&self.pairs) {
+            let (lines, steps) = (reference::best_lines(&case.record), case.schedule.len() / 2);
+            let times = [pair.proved, pair.plain].map(shown).join(" | ");
+            println!("| {} | {lines} | {steps} | {times} | {:.2} |", self.name, pair.proved / pair.plain);
+        }
     }
 }
 

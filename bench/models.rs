@@ -1,7 +1,10 @@
 // The fixed models, as records. Random ones come from a generator of our own with a fixed seed, so every run has the same.
 mod pairs;
+mod ties;
 
 pub use pairs::pairs;
+pub use ties::ties;
+
 use std::collections::BTreeSet;
 use Right::{Push, Remove, Swap};
 

@@ -48,12 +48,3 @@ pub fn steps(number: u64) -> usize {
 pub fn depths(number: u64) -> u64 {
     number >> 32
 }
-
-// What two judgements of a model must agree in: all but the depths of Found, since shortest schedules may differ in these.
-pub fn verdict(number: u64) -> u64 {
-    if kind(number) == FOUND {
-        number & 0xFFFF_FFFF
-    } else {
-        number
-    }
-}

@@ -4,6 +4,7 @@ mod costs;
 mod merge;
 mod page;
 mod record;
+mod run;
 mod table;
 mod walk;
 mod witness;
@@ -73,7 +74,7 @@ pub fn lines(record: &[u8], store: &mut [u8]) -> u64 {
     DONE
 }
 
-// The same, and a shortest schedule at the front of its store, which is then walked for its depths.
+// The same, and the least of the shortest schedules at the front of its store, which is then walked for its depths.
 pub fn judge(record: &[u8], store: &mut [u8], schedule: &mut [u8]) -> u64 {
     let model = match record::read(record) {
         Ok(model) => model,
@@ -85,19 +86,28 @@ pub fn judge(record: &[u8], store: &mut [u8], schedule: &mut [u8]) -> u64 {
     let [a, b] = costs::both(&model);
     draw(&model, &a.any, &b.any, store);
     let (a, b) = (a.asked(), b.asked());
-    let (steps, line) = choose(&model, a, b);
+    let steps = fewest(&model, a, b);
     if steps > table::LONG {
         return CLEAR;
     }
     if steps == table::LONG {
         return LONG;
     }
+    witness::write(&model, steps, a, b, schedule);
     let steps = usize::from(steps);
-    witness::write(&model, line, a[line], b[line], schedule);
     match walk::walk(&model, &schedule[..2 * steps]) {
         Ok(last) => with_depths(FOUND, steps, last.depths),
         Err(number) => number,
     }
+}
+
+// How many lines a model has along which both threads together make the fewest steps. No call of the library tells it.
+pub fn best_lines(record: &[u8]) -> usize {
+    record::read(record).map_or(0, |model| {
+        let [a, b] = costs::both(&model);
+        let (a, b) = (a.asked(), b.asked());
+        witness::best_lines(&model, fewest(&model, a, b), a, b).count()
+    })
 }
 
 pub fn replay(record: &[u8], schedule: &[u8]) -> u64 {
@@ -127,16 +137,10 @@ fn bytes_for(m: &Model) -> usize {
     line_bits(m).div_ceil(8)
 }
 
-// The full line to the target with the fewest steps of both threads together.
-fn choose(m: &Model, a: &[u16], b: &[u16]) -> (u16, usize) {
-    let mut best = (table::NONE, 0);
-    for v in (m.target..m.g.pow(2 * m.k as u32)).step_by(m.g) {
-        let steps = table::joined(a[v], b[v], best.0);
-        if steps < best.0 {
-            best = (steps, v);
-        }
-    }
-    best
+// The fewest steps of both threads together along a full line to the target.
+fn fewest(m: &Model, a: &[u16], b: &[u16]) -> u16 {
+    let lines = (m.target..m.g.pow(2 * m.k as u32)).step_by(m.g);
+    lines.fold(table::NONE, |best, v| table::joined(a[v], b[v], best))
 }
 
 // Bit p stands where both threads can follow the full line of place p.

@@ -66,7 +66,7 @@ enum turncheck_kind {
     TURNCHECK_WRITTEN = 32, /* turncheck_write, turncheck_merge: TURNCHECK_LENGTH bytes were written */
     TURNCHECK_CLEAR = 33,   /* turncheck_judge: no run reaches the target */
     TURNCHECK_LONG = 34,    /* turncheck_judge: some run does, and each that does has more than 4,095 steps */
-    TURNCHECK_FOUND = 35,   /* turncheck_judge: some run does, and a shortest that does has TURNCHECK_STEPS steps; with its depths */
+    TURNCHECK_FOUND = 35,   /* turncheck_judge: a shortest run that does has TURNCHECK_STEPS steps; with the depths of the least schedule */
     TURNCHECK_STOPPED = 36, /* turncheck_replay: the run ends in TURNCHECK_STATE, and not at the target; with its depths */
     TURNCHECK_REACHED = 37, /* turncheck_replay: the run ends in TURNCHECK_STATE, and at the target; with its depths */
     TURNCHECK_TAKEN = 38,   /* turncheck_first: the tray's first TURNCHECK_LENGTH bytes are a record */
@@ -118,10 +118,11 @@ uint64_t turncheck_merge(const uint8_t *first, size_t first_size, const uint8_t 
 uint64_t turncheck_lines(const uint8_t *record, size_t record_size, uint8_t *lines, size_t lines_size);
 
 /* Judges a record's model: TURNCHECK_CLEAR, TURNCHECK_LONG, or TURNCHECK_FOUND with the number of steps and the depths of A and of B; or
- * refusal 1 to 7, 11 or 13. Each verdict fills the line table as turncheck_lines does. Found writes a shortest schedule to the front of the
- * schedule store, two bytes a step: the turn, and the rule's number in its thread's list, from 0. All other bytes keep their value. The
- * depths are those of this schedule, as turncheck_replay gives them; another one that is as short may have others. The schedule store has
- * at least TURNCHECK_SCHEDULE_BYTES, whatever the verdict. */
+ * refusal 1 to 7, 11 or 13. Each verdict fills the line table as turncheck_lines does. Found writes the least of the shortest schedules to
+ * the front of the schedule store: the first, compared step by step, turn number before rule number. A step has two bytes: the turn, and
+ * the rule's number in its thread's list, from 0. All other bytes keep their value. The depths are those of this schedule, as
+ * turncheck_replay gives them; another one that is as short may have others. The schedule store has at least TURNCHECK_SCHEDULE_BYTES,
+ * whatever the verdict. */
 uint64_t turncheck_judge(const uint8_t *record, size_t record_size, uint8_t *lines, size_t lines_size, uint8_t *schedule,
                          size_t schedule_size);
 

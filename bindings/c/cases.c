@@ -62,11 +62,23 @@ static uint64_t on_thread(const char *which, size_t stack) {
     return answer;
 }
 
-/* Bytes from their text: parts with a comma between them, each `-` for none, or base 16, with `*` and how often they stand there. */
+/* Adds the bytes of the file whose name ends at a comma or with the text. */
+static void load(const char *text, struct bytes *b) {
+    char path[128];
+    snprintf(path, sizeof path, "%.*s", (int)strcspn(text, ","), text);
+    FILE *file = fopen(path, "rb");
+    if (file == NULL) fail("no such file");
+    b->size += fread(b->at + b->size, 1, MOST - b->size, file);
+    fclose(file);
+}
+
+/* Bytes from their text: parts with a comma between them, each `-` for none, `@` and a name for those of a file, or base 16, with `*` and
+ * how often they stand there. */
 static void parse(const char *text, struct bytes *b) {
     unsigned value;
     b->size = 0;
     while (text != NULL && *text != 0) {
+        if (*text == '@') load(text + 1, b);
         size_t start = b->size;
         for (; sscanf(text, "%2x", &value) == 1 && b->size < MOST; text += 2) b->at[b->size++] = (uint8_t)value;
         size_t once = b->size - start, times = *text == '*' ? strtoul(text + 1, NULL, 10) : 1;
@@ -96,22 +108,12 @@ static int begins(const struct bytes *store, const struct bytes *expected) {
     return 1;
 }
 
-static void load(const char *path, struct bytes *b) {
-    FILE *file = fopen(path, "rb");
-    if (file == NULL) fail("no such file");
-    b->size = fread(b->at, 1, MOST, file);
-    fclose(file);
-}
-
-/* The same by a word: `?` for anything, `=` for the record, `@` and a name for a file, no word for no bytes. */
+/* The same by a word: `?` for anything, `=` for the record, other words for their bytes, no word for no bytes. */
 static int holds(const struct bytes *store, const char *word) {
     static struct bytes expected;
     if (word != NULL && strcmp(word, "?") == 0) return 1;
     if (word != NULL && strcmp(word, "=") == 0) return begins(store, &record);
-    if (word != NULL && word[0] == '@')
-        load(word + 1, &expected);
-    else
-        parse(word, &expected);
+    parse(word, &expected);
     return begins(store, &expected);
 }
 

@@ -15,12 +15,16 @@ fn on_thread<T: Send>(stack: usize, call: impl FnOnce() -> T + Send) -> T {
     })
 }
 
-/// Bytes from their text: parts with a comma between them, each `-` for none, or base 16, with `*` and how often they stand there.
+/// Bytes from their text: parts with a comma between them, each `-` for none, `@` and a name for those of a file, or base 16, with `*` and
+/// how often they stand there.
 fn parse(text: &str) -> Vec<u8> {
     text.split(',').flat_map(part).collect()
 }
 
 fn part(text: &str) -> Vec<u8> {
+    if let Some(path) = text.strip_prefix('@') {
+        return std::fs::read(path).expect("no such file");
+    }
     let (once, times) = text.split_once('*').unwrap_or((text.trim_matches('-'), "1"));
     let byte = |i: usize| u8::from_str_radix(&once[i..i + 2], 16).expect("not base 16");
     let bytes: Vec<u8> = (0..once.len()).step_by(2).map(byte).collect();
@@ -61,15 +65,12 @@ fn last(l: Last) -> String {
     format!("{}:{}:{}:{}", if l.target { "target" } else { "state" }, l.state, l.depths.a, l.depths.b)
 }
 
-/// What is expected of a store, by a word: `?` for anything, `=` for the record, `@` and a name for a file, no word for no bytes.
+/// What is expected of a store, by a word: `?` for anything, `=` for the record, other words for their bytes, no word for no bytes.
 fn expects(word: Option<&&str>, record: &[u8], store: &[u8]) -> bool {
     match word {
         Some(&"?") => true,
         Some(&"=") => holds(store, record),
-        Some(text) => match text.strip_prefix('@') {
-            Some(path) => holds(store, &std::fs::read(path).expect("no such file")),
-            None => holds(store, &parse(text)),
-        },
+        Some(text) => holds(store, &parse(text)),
         None => holds(store, &[]),
     }
 }

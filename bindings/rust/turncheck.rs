@@ -64,7 +64,7 @@ pub enum Verdict {
     Clear,
     /// Some run does, and each that does has more than 4,095 steps.
     Long,
-    /// A shortest run that does has so many steps. The depths are those of the schedule that was written.
+    /// A shortest run that does has so many steps. The depths are those of the least schedule, which was written.
     Found(usize, Depths),
 }
 
@@ -228,9 +228,10 @@ pub fn lines(record: &[u8], lines: &mut [u8]) -> Result<(), Refusal> {
     }
 }
 
-/// Judges a record's model. Each verdict fills the line table as `lines` does. Found writes a shortest schedule to the front of the
-/// schedule store, two bytes a step: the turn, and the rule's number in its thread's list, from 0. All other bytes keep their value. The
-/// depths are those of this schedule, as `replay` gives them; another one that is as short may have others.
+/// Judges a record's model. Each verdict fills the line table as `lines` does. Found writes the least of the shortest schedules to the
+/// front of the schedule store: the first, compared step by step, turn number before rule number. A step has two bytes: the turn, and the
+/// rule's number in its thread's list, from 0. All other bytes keep their value. The depths are those of this schedule, as `replay` gives
+/// them; another one that is as short may have others.
 pub fn judge(record: &[u8], lines: &mut [u8], schedule: &mut [u8]) -> Result<Verdict, Refusal> {
     let number = unsafe {
         turncheck_judge(

@@ -24,13 +24,12 @@ use Rattle.summary.specs.Control.{Control, TurnEnd, Moves, Switches, entry, InT
 use Rattle.summary.specs.Edges.{bestOf}
 use Rattle.summary.specs.Stretch.{End, pop, stay, OnTop, Asks, Path, Stretch}
 use Rattle.summary.specs.Table.{cap, capped, Least, Exact}
-use Rattle.summary.proofs.Best.{exact-closed}
 use Rattle.summary.proofs.Floors.{floored, unfloored}
 use Rattle.summary.proofs.Numbers.{control-eq}
 use Rattle.summary.proofs.Overs.{Over, within, gone, overs, pops, stays}
 use Rattle.summary.proofs.Ranging.{Sym, ranged}
 use Rattle.summary.proofs.Relaxing.{better}
-use Rattle.summary.proofs.Tables.{Bounded, bounded}
+use Rattle.summary.proofs.Tables.{Bounded, bounded, exact-closed}
 use Rattle.costs.specs.Cost.{control, through, overStates, overTurns, pairCost}
 use Rattle.costs.specs.Ends.{turnOf}
 
@@ -54,7 +53,7 @@ floor-low (Named s) fits o = absurd (omega (arith, equal 16 (s .0) .0 o))
 module _ {C S : Type 0} {Move : C → ℕ → S → Right → C → Type 0} {Switch : C → C → Type 0} (φ : ℕ)
     (idle : (c d : C) (s : S) (x : Right) → Move c φ s x d → ⊥) where
   -- The floor is never popped.
-  never : {c q : C} {ss rest : List S} → Stretch Move Switch c φ (pop q) ss rest → ⊥
+  pub never : {c q : C} {ss rest : List S} → Stretch Move Switch c φ (pop q) ss rest → ⊥
   never (Stretch.remove m) = idle _ _ _ _ m
   never (Stretch.swap m r) = idle _ _ _ _ m
   never (Stretch.both m r q) = idle _ _ _ _ m

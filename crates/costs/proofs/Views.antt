@@ -101,13 +101,14 @@ under-tops m σ =
     let tests = both (hasTop (m .a .top) (σ .a)) (hasTop (m .b .top) (σ .b)) in
     (λ h. let t = tests .0 h in each (λ k. T (hasTop (topsOf m k) (stackOf k σ))) ab (t .0) (t .1), λ h. tests .1 (h A, h B))
 
--- A's and B's views of one line, with n steps in all.
-pub record Views (m : Model) (ask : ThreadId → Top) (t g : ℕ) (σ : Stacks) (line : List ℕ) (n : ℕ) : Type 0 where
+-- A's and B's views of one line, with these steps in all.
+pub record Views (m : Model) (ask : ThreadId → Top) (t g : ℕ) (σ : Stacks) (line : List ℕ) (ss : List Step) : Type 0 where
   pub xs : List Step
   pub ys : List Step
   pub a : View m A (ask A) t false g (σ .a) line xs
   pub b : View m B (ask B) t false g (σ .b) line ys
-  pub steps : length xs + length ys ≡ n
+  pub all : Merged xs ys ss
+  pub steps : length xs + length ys ≡ length ss
 
 -- The views of two threads, of which the first has the turn, and the steps of both.
 record Both (m : Model) (ask : ThreadId → Top) (i j : ThreadId) (t : ℕ) (held : Bool) (g : ℕ) (σ : Stacks) (line : List ℕ)
@@ -225,12 +226,12 @@ module _ {m : Model} (ask : ThreadId → Top) where
   join-at A {σ = σ} {line = line} e v w = join line σ ab e v w
   join-at B {σ = σ} {line = line} e v w = joined-over (join line σ ba e w v)
 
-  -- A run is both threads' views of its line, and their steps are as many as the run's.
+  -- A run is both threads' views of its line, and their steps are the run's, each view's in its own order.
   pub views : {t g : ℕ} {σ τ : Stacks} {line : List ℕ} {ss : List Step} → Turns m t false g σ line ss τ → Under ask τ
-      → Views m ask t g σ line (length ss)
+      → Views m ask t g σ line ss
   views {t} r u =
       let v = split-at (ownerOf t) refl r u in
-      record { xs = v .mine; ys = v .theirs; a = v .own; b = v .others; steps = sym (merged-length (v .merged)) }
+      record { xs = v .mine; ys = v .theirs; a = v .own; b = v .others; all = v .merged; steps = sym (merged-length (v .merged)) }
 
   -- Two views of one line are a run, whose steps are theirs, each view's in its own order.
   pub merged-views : {t g : ℕ} {σ : Stacks} {line : List ℕ} {xs ys : List Step}
@@ -239,7 +240,7 @@ module _ {m : Model} (ask : ThreadId → Top) where
 
 -- A run to the tops that a model asks for is both threads' views of its line to them ..
 pub under-views : {m : Model} {line : List ℕ} {ss : List Step} → EndsUnder m line ss
-    → Views m (topsOf m) 0 (m .start .0) (startStacks m) line (length ss)
+    → Views m (topsOf m) 0 (m .start .0) (startStacks m) line ss
 under-views {m} (σ, r, h) = views (topsOf m) r (under-tops m σ .0 h)
 
 -- .. and two such views are a run with as many steps as both.

@@ -1,4 +1,5 @@
 pub mod Bits
+pub mod Determined
 pub mod Full
 pub mod Marks
 pub mod Pack

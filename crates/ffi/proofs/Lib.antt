@@ -1,3 +1,4 @@
+pub mod Determined
 pub mod Merges
 pub mod Ranges
 pub mod Records

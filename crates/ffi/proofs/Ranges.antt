@@ -71,9 +71,9 @@ lines-range m size v = go (storeRefusal m (tableFits m size)) (seven m (tableFit
 
 -- A count of steps fits beside the depths of a schedule that stands in a store ..
 pub found-fits : {m : Model} {n x : ℕ} {d : Depths} {old new : List ℕ} → Valid m → x ≤ 4096 → n ≤ mostSteps
-    → Stored (Witness m d) n 0 old new → FieldsFit x d
+    → Stored (Witness m n d) n 0 old new → FieldsFit x d
 found-fits {m} v low h s =
-    let known = legal (valid-fits m .0 v) (s .run .reaches .leads .walked) in
+    let known = legal (valid-fits m .0 v) (s .run .least .run .leads .walked) in
     rw (s .run .deep) (record {
       first = omega arith;
       a = omega (arith, depth-most A known, s .count);

@@ -1,5 +1,9 @@
+pub mod Adding
 pub mod Answers
 pub mod Choices
+pub mod Comparing
+pub mod Determined
+pub mod Lowest
 pub mod Reaching
 pub mod Schedules
 pub mod Tops

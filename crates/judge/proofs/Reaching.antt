@@ -2,29 +2,30 @@
 -- target, its steps are both threads' views of that line, and two views of one line join to a run along it.
 use mathlib.Core.List.{List}
 use mathlib.Core.Path.{_≡_, refl, sym, ap, subst, _∙_}
-use Prim.Native.Nat.{ℕ, _*_, _%_, _^_, _≤_, _<_}
+use Prim.Native.Nat.{ℕ, _+_, _*_, _%_, _^_, _≤_, _<_}
 use native.Mathlib.Omega.{arith}
 use lib.Dec.{T, eqb}
-use lib.ListN.{length}
+use lib.ListN.{length, getD}
 use Rattle.model.specs.declared.Model.{Model}
 use Rattle.model.specs.Fits.{Fits}
-use Rattle.model.specs.Lines.{States, lastOf, value, digits}
+use Rattle.model.specs.Lines.{lastOf, value, digits}
 use Rattle.model.specs.Runs.{Reaches, EndsUnder}
 use Rattle.model.specs.Verdict.{clear, long, found, Judged}
 use Rattle.model.specs.declared.ThreadId.the-variants.{A, B}
 use Rattle.model.specs.Walk.{underTops, Step}
 use Rattle.model.proofs.Inside.{inside}
-use Rattle.model.proofs.Positions.{length-digits, digits-value}
+use Rattle.model.proofs.Positions.{value-below, length-digits, digits-value}
 use Rattle.model.proofs.Ranges.{valid-fits}
 use Rattle.model.proofs.Tests.{both, equal}
 use Rattle.model.proofs.Turns.{legal-full}
 use Rattle.summary.specs.Table.{cap, capped, Least}
 use Rattle.costs.specs.Cost.{TargetCosts}
 use Rattle.draw.proofs.Full.{last-digits}
-use Rattle.draw.proofs.Marks.{line-cost, full-cost}
+use Rattle.draw.proofs.Marks.{line-cost}
 use Rattle.costs.proofs.Views.{under-views, joined-under}
 use Rattle.judge.specs.declared.Choice.{Choice}
-use Rattle.judge.specs.Best.{Best}
+use Rattle.judge.specs.Best.{Open, Best}
+use Rattle.judge.specs.Least.{AlongLine, AlongBelow}
 use Rattle.model.specs.Schedules.{mostSteps}
 
 -- What a run that reaches the target has met: the target state, and the tops that are named.
@@ -52,48 +53,60 @@ module _ {m : Model} where
           target = both (eqb (m .target .0) (m .target .0)) (underTops m σ) .1 (equal (m .target .0) (m .target .0) .1 refl, h);
         }
 
-    -- The last state of a full line is the rest of its value by G.
-    line-ends : (line : List ℕ) {target : ℕ} → length line ≡ 2 * m .k → States (m .g) line
-        → lastOf (m .start .0) line ≡ target → value (m .g) line < m .g ^ (2 * m .k) → value (m .g) line % m .g ≡ target
-    line-ends line size states last low =
-        let v : ℕ = value (m .g) line in
-        let same : digits (m .g) (2 * m .k) v ≡ line =
-        subst (λ n. digits (m .g) n v ≡ line) size (digits-value (m .g) line states) in
+    -- A schedule that reaches the target goes along a full line that ends in the target state: the last state is the rest of the line's
+    -- value by G.
+    pub reaches-along : {ss : List Step} → Reaches m ss → AlongBelow m (m .g ^ (2 * m .k)) ss
+    reaches-along {ss} r =
+        let t = target-met r in
+        let w = legal-full ss (r .shared) (r .stacks) (f .k .0) .0 (r .leads) in
+        let states = inside (valid-fits m .1 f) (f .start) (w .turns) in
+        let v : ℕ = value (m .g) (w .line) in
+        let low : v < m .g ^ (2 * m .k) = subst (λ n. v < m .g ^ n) (w .size) (value-below (m .g) (w .line) states) in
+        let same : digits (m .g) (2 * m .k) v ≡ w .line =
+        subst (λ n. digits (m .g) n v ≡ w .line) (w .size) (digits-value (m .g) (w .line) states) in
         let rest = last-digits (m .g) (2 * m .k) v (m .start .0) (f .g .0) (omega (arith, f .k)) low in
-        sym rest ∙ (ap (lastOf (m .start .0)) same ∙ last)
+        record {
+          line = v;
+          low = low;
+          ends = sym rest ∙ (ap (lastOf (m .start .0)) same ∙ (w .last ∙ t .0));
+          run = rw same (r .stacks, w .turns, t .1);
+        }
 
-    module _ {a b : List ℕ} {c : Choice} (costs : TargetCosts m a b)
-        (best : Best (m .g) (m .target .0) (m .g ^ (2 * m .k)) a b c) where
+    module _ {a b : List ℕ} (costs : TargetCosts m a b) where
+      -- Where both threads can follow a full line that ends in the target, a run along it reaches the target in the steps of both.
+      pub costs-reach : {v : ℕ} → Open (m .g) (m .target .0) (m .g ^ (2 * m .k)) a b v
+          → (ss : List Step) × Reaches m ss × (capped (length ss) ≡ capped (getD a v 0 + getD b v 0))
+      costs-reach {v} o =
+          let p = line-cost m A (m .a .top) a (f .k .0) (costs .0) v (o .low) .some (o .first) in
+          let q = line-cost m B (m .b .top) b (f .k .0) (costs .1) v (o .low) .some (o .second) in
+          let r = joined-under (p .1) (q .1) in
+          (r .0, run-reaches (o .low) (o .ends) (r .1), omega (arith, p .2, q .2, r .2))
+
+      -- A run along a full line has no fewer steps than both threads' costs of it.
+      pub costs-least : {v : ℕ} {ss : List Step} → v < m .g ^ (2 * m .k) → AlongLine m v ss
+          → (getD a v 0 ≤ cap) × (getD b v 0 ≤ cap) × (getD a v 0 + getD b v 0 ≤ length ss)
+      costs-least {v} low r =
+          let w = under-views r in
+          let i = line-cost m A (m .a .top) a (f .k .0) (costs .0) v low .least (w .a) in
+          let j = line-cost m B (m .b .top) b (f .k .0) (costs .1) v low .least (w .b) in
+          (i .0, j .0, omega (arith, i .1, j .1, w .steps))
+
       -- The steps of the best line are the least of all runs that reach the target.
-      pub reaching : Least (Reaches m) (c .steps)
-      reaching = record { some = some; least = λ {ss} r. least r }
+      pub reaching : {c : Choice} → Best (m .g) (m .target .0) (m .g ^ (2 * m .k)) a b c → Least (Reaches m) (c .steps)
+      reaching {c} best = record { some = some; least = λ {ss} r. least r }
         where
           some : c .steps ≤ cap → (ss : List Step) × Reaches m ss × (capped (length ss) ≡ c .steps)
           some h =
               let s = best .some h in
-              let o = s .0 in
-              let p = line-cost m A (m .a .top) a (f .k .0) (costs .0) (c .line) (o .low) .some (o .first) in
-              let q = line-cost m B (m .b .top) b (f .k .0) (costs .1) (c .line) (o .low) .some (o .second) in
-              let r = joined-under (p .1) (q .1) in
-              (r .0, run-reaches (o .low) (o .ends) (r .1), omega (arith, p .2, q .2, r .2, s .1))
+              let r = costs-reach (s .0) in
+              (r .0, r .1, r .2 ∙ s .1)
 
           least : {ss : List Step} → Reaches m ss → (c .steps ≤ cap) × (c .steps ≤ length ss)
-          least {ss} r =
-              let t = target-met r in
-              let w = legal-full ss (r .shared) (r .stacks) (f .k .0) .0 (r .leads) in
-              let states = inside (valid-fits m .1 f) (f .start) (w .turns) in
-              let v = under-views (r .stacks, w .turns, t .1) in
-              let x = full-cost m A (m .a .top) a (f .k .0) (costs .0) (w .line) (w .size) states in
-              let y = full-cost m B (m .b .top) b (f .k .0) (costs .1) (w .line) (w .size) states in
-              let i = x .1 .least (v .a) in
-              let j = y .1 .least (v .b) in
-              let z = best .least (value (m .g) (w .line)) (record {
-                low = x .0;
-                ends = line-ends (w .line) (w .size) states (w .last ∙ t .0) (x .0);
-                first = i .0;
-                second = j .0;
-              }) in
-              (z .0, omega (arith, z .1, i .1, j .1, v .steps))
+          least r =
+              let w = reaches-along r in
+              let i = costs-least (w .low) (w .run) in
+              let z = best .least (w .line) (record { low = w .low; ends = w .ends; first = i .0; second = i .1 }) in
+              (z .0, omega (arith, z .1, i .2))
 
   -- The verdict by the least steps of the runs that reach the target: above 4,096 there is none ..
   pub judged-clear : {n : ℕ} → Least (Reaches m) n → cap < n → Judged m clear

@@ -1,5 +1,4 @@
--- The schedule of the best line: its two costs are what the writer asks for, and what it writes reaches the target in the
--- least number of steps. So replay accepts it.
+-- The schedule that was written reaches the target, so it is legal, its depths are those of its steps, and replay accepts it.
 use mathlib.Core.Bool.{true, _&&_}
 use mathlib.Core.List.{List}
 use mathlib.Core.Path.{_≡_, sym, _∙_}
@@ -10,6 +9,7 @@ use lib.ListN.{length, take, getD}
 use Rattle.model.specs.declared.Depths.{Depths}
 use Rattle.model.specs.declared.Model.{Model}
 use Rattle.model.specs.Depths.{depthsOf}
+use Rattle.model.specs.First.{LeastSchedule}
 use Rattle.model.specs.Fits.{Fits}
 use Rattle.model.specs.Lines.{digits}
 use Rattle.model.specs.Runs.{Reaches, EndsUnder}
@@ -37,61 +37,25 @@ use Rattle.judge.specs.Best.{Best}
 use Rattle.costs.specs.Lanes.{fullLines}
 use Rattle.judge.proofs.Reaching.{target-met, run-reaches}
 
-module _ {m : Model} (f : Fits m) {a b : List ℕ} {c : Choice}
-    (best : Best (m .g) (m .target .0) (m .g ^ (2 * m .k)) a b c) (most : c .steps ≤ mostSteps) where
-  -- The best line has a place in the lists of costs.
-  pub best-low : c .line < fullLines
-  best-low =
-      let small : m .g ^ (2 * m .k) ≤ fullLines = power-small {n = 2 * m .k} (f .g .1) (omega (arith, f .k)) in
-      omega (arith, best .some (omega arith) .0 .low)
-
-  -- Its two costs add up to the steps.
-  pub best-steps : getD a (c .line) 0 + getD b (c .line) 0 ≡ c .steps
-  best-steps = omega (arith, best .some (omega arith) .1)
-
-  -- What the writer asks for.
-  pub best-chosen : TargetCosts m a b → Chosen m (c .line) (getD a (c .line) 0) (getD b (c .line) 0)
-  best-chosen costs =
-      let o = best .some (omega arith) .0 in
-      record {
-        low = o .low;
-        a = line-cost m A (m .a .top) a (f .k .0) (costs .0) (c .line) (o .low);
-        b = line-cost m B (m .b .top) b (f .k .0) (costs .1) (c .line) (o .low);
-        most = omega (arith, best-steps);
-      }
-
-  -- What it has written.
-  pub best-scheduled : {n : ℕ} {old new : List ℕ} → n ≡ getD a (c .line) 0 + getD b (c .line) 0
-      → Stored (EndsUnder m (digits (m .g) (2 * m .k) (c .line))) n 0 old new
-      → Stored (Reaches m) (c .steps) 0 old new
-  best-scheduled e w =
-      let o = best .some (omega arith) .0 in
-      record {
-        steps = w .steps;
-        run = run-reaches f (o .low) (o .ends) (w .run);
-        count = w .count ∙ (e ∙ best-steps);
-        shown = w .shown;
-      }
-
 -- What stands in a store with room for it is legal, and its depths are those of its steps.
-module _ {m : Model} {n : ℕ} {old new : List ℕ} (s : Stored (Reaches m) n 0 old new) (room : 2 * n ≤ length old) where
+module _ {m : Model} {n : ℕ} {old new : List ℕ} (s : Stored (LeastSchedule m n) n 0 old new) (room : 2 * n ≤ length old) where
   pub stored-legal : Fits m → Legal m (stepsOf (take (2 * n) new))
-  stored-legal f = rw (stored-steps s room) (legal f (s .run .leads .walked))
+  stored-legal f = rw (stored-steps s room) (legal f (s .run .run .leads .walked))
 
-  pub stored-witness : {depths : Depths} → depths ≡ depthsOf m (stepsOf (take (2 * n) new)) → Stored (Witness m depths) n 0 old new
+  pub stored-witness : {depths : Depths} → depths ≡ depthsOf m (stepsOf (take (2 * n) new)) → Stored (Witness m n depths) n 0 old new
   stored-witness e =
       record {
         steps = s .steps;
-        run = record { reaches = s .run; deep = rw (stored-steps s room) at e };
+        run = record { least = s .run; deep = rw (stored-steps s room) at e };
         count = s .count;
         shown = s .shown;
       }
 
 -- Replay accepts a schedule that stands in a store with room for it, and says that it reaches the target, and how deep it went.
 pub replayed : (m : Model) {n : ℕ} {depths : Depths} {old new : List ℕ} → Valid m → n ≤ mostSteps → 2 * n ≤ length old
-    → Stored (Witness m depths) n 0 old new → replayOf m (take (2 * n) new) ≡ Accepted (m .target) true depths
+    → Stored (Witness m n depths) n 0 old new → replayOf m (take (2 * n) new) ≡ Accepted (m .target) true depths
 replayed m {n} {depths} {old} {new} v most room s =
-    let reaches = s .run .reaches in
+    let reaches = s .run .least .run in
     accepts m (take (2 * n) new) (m .target) true depths .1 (record {
       valid = v;
       steps = s .steps;
@@ -106,7 +70,7 @@ replayed m {n} {depths} {old} {new} v most room s =
 -- Where the judge says Found n, replay accepts the first 2n bytes of the schedule store, and says that they reach the target, as deep as
 -- the judge says.
 pub found-replayed : (m : Model) (lines : ℕ) {n : ℕ} {depths : Depths} {old new : List ℕ}
-    → Answers m (refusalOf m lines (length old)) (Found n depths) → Stored (Witness m depths) n 0 old new
+    → Answers m (refusalOf m lines (length old)) (Found n depths) → Stored (Witness m n depths) n 0 old new
     → replayOf m (take (2 * n) new) ≡ Accepted (m .target) true depths
 unfolding refusalOf
 found-replayed m lines {n} {depths} {old} a s =

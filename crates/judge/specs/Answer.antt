@@ -7,7 +7,7 @@ use lib.Dec.{leb}
 use Rattle.model.specs.declared.Depths.{Depths}
 use Rattle.model.specs.declared.Model.{Model}
 use Rattle.model.specs.Depths.{depthsOf}
-use Rattle.model.specs.Runs.{Reaches}
+use Rattle.model.specs.First.{LeastSchedule}
 use Rattle.model.specs.Schedules.{Stored, mostBytes}
 use Rattle.model.specs.Tables.{tableFits, LineTable}
 use Rattle.model.specs.Valid.{storeRefusal}
@@ -36,15 +36,15 @@ LeavesLines m Long old new = LineTable m old new
 LeavesLines m (Found s depths) old new = LineTable m old new
 LeavesLines m (Refused r) old new = new ≡ old
 
--- A schedule that reaches the target, with the depths of the stacks in its run.
-pub record Witness (m : Model) (depths : Depths) (ss : List Step) : Type 0 where
-  pub reaches : Reaches m ss
+-- The least schedule of n steps that reaches the target, with the depths of the stacks in its run.
+pub record Witness (m : Model) (n : ℕ) (depths : Depths) (ss : List Step) : Type 0 where
+  pub least : LeastSchedule m n ss
   pub deep : depths ≡ depthsOf m ss
 
--- What the schedule store holds after an answer: for Found a schedule of so many steps that reaches the target, just so deep, at its
--- front, with the bytes beyond as they were; or what it held.
+-- What the schedule store holds after an answer: for Found the least schedule of so many steps that reaches the target, just so deep, at
+-- its front, with the bytes beyond as they were; or what it held.
 abbrev pub LeavesSchedule : Model → Judgement → List ℕ → List ℕ → Type 0
 LeavesSchedule m Clear old new = new ≡ old
 LeavesSchedule m Long old new = new ≡ old
-LeavesSchedule m (Found s depths) old new = Stored (Witness m depths) s 0 old new
+LeavesSchedule m (Found s depths) old new = Stored (Witness m s depths) s 0 old new
 LeavesSchedule m (Refused r) old new = new ≡ old

@@ -4,15 +4,19 @@ ghost use mathlib.Core.Path.{_≡_};
 ghost use Prim.Native.Nat.{_*_, _^_, _≤_};
 ghost use lib.ListN.{length};
 ghost use Rattle.model.specs.declared.Top.the-variants.{Any};
+ghost use Rattle.model.specs.First.{LeastSchedule};
 ghost use Rattle.model.specs.Fits.{Fits};
 ghost use Rattle.model.specs.Tables.{bytesFor};
-ghost use Rattle.model.specs.Schedules.{mostBytes};
+ghost use Rattle.model.specs.Schedules.{mostBytes, Stored};
+ghost use Rattle.model.specs.Verdict.{found, Judged};
 ghost use Rattle.costs.specs.Cost.{BothCosts, FirstNamed, SecondNamed, TargetCosts};
 ghost use Rattle.costs.specs.Lanes.{fullLines, TableFor};
 ghost use Rattle.judge.specs.Answer.{refusalOf, Answers, LeavesLines, LeavesSchedule};
 ghost use Rattle.judge.specs.Best.{Best};
 
 mod choose;
+mod compare;
+mod least;
 
 use costs::LINES;
 use depths::depths;
@@ -24,8 +28,7 @@ use summary::CAP;
 use summary::cells::SIZE;
 use summary::cells::SMALL;
 
-// A verdict, Found with the number of steps of a shortest run and the depths of the stacks in the one that was written; or a refusal's
-// number.
+// A verdict, Found with the number of steps of a shortest run and the depths of the stacks in the least of these; or a refusal's number.
 pub enum Judgement {
     Clear,
     Long,
@@ -39,7 +42,8 @@ pub struct Choice {
     pub steps: u16,
 }
 
-// Whether runs of at most K rounds reach the target. Fills the line store, and writes a shortest schedule where it is Found.
+// Whether runs of at most K rounds reach the target. Fills the line store, and writes the least of the shortest schedules where it is
+// Found.
 pub fn judge(m: Model, lines: &mut [u8], schedule: &mut [u8]) -> Judgement
     ensures answer { λ r. ⌜
         Answers m (refusalOf m (length (now (lines .entry))) (length (now (schedule .entry)))) r
@@ -188,7 +192,7 @@ fn search(m: Model, a: &[u16], b: &[u16], schedule: &mut [u8]) -> Judgement
     told(m, best, a, b, schedule)
 }
 
-// The verdict that the best line stands for, and its schedule where it is short enough. The depths are read off what was written.
+// The verdict that the best line stands for, and the least schedule where it is short enough. The depths are read off what was written.
 fn told(m: Model, best: Choice, a: &[u16], b: &[u16], schedule: &mut [u8]) -> Judgement
     requires { ⌜ Fits m ⌝ ∗ ⌜ (fullLines ≤ length (now a)) × (fullLines ≤ length (now b)) × (mostBytes ≤ length (now schedule)) ⌝
         ∗ ⌜ TargetCosts m (now a) (now b) ⌝ ∗ ⌜ Best (m .g) (m .target .0) (m .g ^ (2 * m .k)) (now a) (now b) best ⌝ }
@@ -201,9 +205,26 @@ fn told(m: Model, best: Choice, a: &[u16], b: &[u16], schedule: &mut [u8]) -> Ju
     if best.steps == CAP {
         return Judgement::Long;
     }
-    let line = best.line;
-    witness::write(m, line, a[line], b[line], schedule);
+    let count = best.steps as usize;
+    write_least(m, count, a, b, schedule);
     let steps = best.steps as u64;
-    let end = 2 * best.steps as usize;
+    let end = 2 * count;
     Judgement::Found(steps, depths(m, &schedule[..end]))
+}
+
+// Writes the least schedule, which has so many steps. Where no rule is held the smaller tables will do.
+fn write_least(m: Model, steps: usize, a: &[u16], b: &[u16], schedule: &mut [u8])
+    requires { ⌜ Fits m ⌝ ∗ ⌜ (fullLines ≤ length (now a)) × (fullLines ≤ length (now b)) × (mostBytes ≤ length (now schedule)) ⌝
+        ∗ ⌜ TargetCosts m (now a) (now b) ⌝ ∗ ⌜ Judged m (found steps) ⌝ }
+    ensures { λ _. ⌜ Stored (LeastSchedule m steps) steps 0 (now (schedule .entry)) (now (schedule .exit)) ⌝ }
+{
+    if costs::room::is_free(m) {
+        let mut first = [0u16; SMALL];
+        let mut second = [0u16; SMALL];
+        least::least(m, steps, a, b, &mut first, &mut second, schedule);
+    } else {
+        let mut first = [0u16; SIZE];
+        let mut second = [0u16; SIZE];
+        least::least(m, steps, a, b, &mut first, &mut second, schedule);
+    }
 }

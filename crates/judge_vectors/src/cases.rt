@@ -1,11 +1,9 @@
 // Comparisons of a judgement with what is known of a model. Every store is filled with 170 beforehand.
 use judge::Judgement;
-use model::Depths;
 use model::Model;
 use model::Symbol;
 use model::Thread;
 use model::Top;
-use replay::Replayed;
 
 // The numbers of the verdicts in the files of cases.
 const CLEAR: u8 = 0;
@@ -14,7 +12,7 @@ const LONG: u8 = 1;
 
 const FOUND: u8 = 2;
 
-// What is known of a model: its verdict, and where it is Found, the steps and the depths of A and B, each 0 where it is not known.
+// What is known of a model: its verdict, and where it is Found, the steps and the depths of A and B, else 0.
 pub struct Known {
     pub kind: u8,
     pub steps: usize,
@@ -22,19 +20,14 @@ pub struct Known {
     pub b: usize,
 }
 
-// What a file of cases says, which has no depths.
-pub fn stored(kind: u8, steps: usize) -> Known {
+// It is Clear.
+pub fn clear() -> Known {
     Known {
-        kind,
-        steps,
+        kind: CLEAR,
+        steps: 0,
         a: 0,
         b: 0,
     }
-}
-
-// It is Clear.
-pub fn clear() -> Known {
-    stored(CLEAR, 0)
 }
 
 // It is Found in so many steps, with these depths.
@@ -47,11 +40,6 @@ pub fn found(steps: usize, a: usize, b: usize) -> Known {
     }
 }
 
-// A depth is the one that is known, if any is.
-fn deep(depth: usize, known: usize) -> bool {
-    known == 0 || depth == known
-}
-
 // A judgement is a refusal with this number.
 fn refused(j: Judgement, number: u8) -> bool {
     match j {
@@ -62,76 +50,60 @@ fn refused(j: Judgement, number: u8) -> bool {
     }
 }
 
-// A schedule store begins with a schedule of so many steps that replay finds to reach the target, with these depths; all other bytes are
-// as they were.
-fn scheduled(m: Model, steps: usize, depths: Depths, schedule: &[u8]) -> bool {
-    if 4095 < steps {
-        return false;
-    }
-    let end = 2 * steps;
-    if schedule.len() < end {
-        return false;
-    }
-    if !vectors::filled(&schedule[end..], 170) {
-        return false;
-    }
-    match replay::replay(m, &schedule[0..end]) {
-        Replayed::Accepted(shared, reached, d) => {
-            reached && shared.0 == m.target.0 && d.a == depths.a && d.b == depths.b
-        }
-        Replayed::Refused(_) => false,
-    }
-}
-
-// The judgement on a model is what is known of it, and the schedule store is left as it was or with the schedule that is Found.
-fn judged(m: Model, known: Known, lines: &mut [u8], schedule: &mut [u8]) -> bool {
-    match judge::judge(m, lines, schedule) {
-        Judgement::Clear => known.kind == CLEAR && vectors::filled(schedule, 170),
-        Judgement::Long => known.kind == LONG && vectors::filled(schedule, 170),
+// A judgement says what is known.
+fn says(j: Judgement, known: Known) -> bool {
+    match j {
+        Judgement::Clear => known.kind == CLEAR,
+        Judgement::Long => known.kind == LONG,
         Judgement::Found(n, d) => {
-            known.kind == FOUND
-                && n == known.steps as u64
-                && deep(d.a, known.a)
-                && deep(d.b, known.b)
-                && scheduled(m, known.steps, d, schedule)
+            known.kind == FOUND && n == known.steps as u64 && d.a == known.a && d.b == known.b
         }
         Judgement::Refused(_) => false,
     }
 }
 
+// A store has these bytes in front, and all behind them is as it was.
+fn holds(store: &[u8], front: &[u8]) -> bool {
+    let n = front.len();
+    if store.len() < n {
+        return false;
+    }
+    check::same(&store[0..n], front) && vectors::filled(&store[n..], 170)
+}
+
+// The judgement on a model says what is known of it, and the schedule store has the least schedule in front, which is empty unless one is
+// Found, and is behind it as it was.
+fn judged(m: Model, known: Known, least: &[u8], lines: &mut [u8], schedule: &mut [u8]) -> bool {
+    says(judge::judge(m, lines, schedule), known) && holds(schedule, least)
+}
+
 // The judgement on the model that a record holds, with stores longer than it needs; the line table too where one is given.
-pub fn agrees(bytes: &[u8], known: Known, table: &[u8]) -> bool {
+pub fn agrees(bytes: &[u8], known: Known, table: &[u8], least: &[u8]) -> bool {
     let reading = record::read(bytes);
     let m = reading.model;
     let mut lines = [170u8; 700];
     let mut schedule = [170u8; 8200];
-    if !judged(m, known, &mut lines, &mut schedule) {
-        return false;
-    }
-    let n = table.len();
-    if n == 0 {
-        return true;
-    }
-    if 700 < n {
-        return false;
-    }
-    if !vectors::filled(&lines[n..], 170) {
-        return false;
-    }
-    check::same(&lines[0..n], table)
+    judged(m, known, least, &mut lines, &mut schedule) && (table.len() == 0 || holds(&lines, table))
 }
 
 // A model is judged with a line store of n bytes and a schedule store of 8,190; one byte less of either is refused by 7.
-pub fn fits(bytes: &[u8], known: Known, n: usize) -> bool {
+pub fn fits(bytes: &[u8], known: Known, least: &[u8], n: usize) -> bool {
     let reading = record::read(bytes);
     let m = reading.model;
     let mut lines = [170u8; 700];
     let mut schedule = [170u8; 8190];
-    fits_in(m, known, n, &mut lines, &mut schedule)
+    fits_in(m, known, least, n, &mut lines, &mut schedule)
 }
 
 // The same, with the stores given.
-fn fits_in(m: Model, known: Known, n: usize, lines: &mut [u8], schedule: &mut [u8]) -> bool {
+fn fits_in(
+    m: Model,
+    known: Known,
+    least: &[u8],
+    n: usize,
+    lines: &mut [u8],
+    schedule: &mut [u8],
+) -> bool {
     if n == 0 {
         return false;
     }
@@ -155,7 +127,7 @@ fn fits_in(m: Model, known: Known, n: usize, lines: &mut [u8], schedule: &mut [u
     if !vectors::filled(schedule, 170) {
         return false;
     }
-    judged(m, known, &mut lines[0..n], schedule)
+    judged(m, known, least, &mut lines[0..n], schedule)
 }
 
 // A model is refused with this number, and both stores stay as they were.

@@ -1,8 +1,15 @@
-// Judges document 01's models, some with tops and some with held rules, the longest and deepest ones we know and files of random ones, and
-// compares: verdict, steps, depths, line table, and the schedule, which is replayed.
+// Judges document 01's models, some with tops and some with held rules, ties, the longest and deepest ones we know and files of random ones,
+// and compares: verdict, steps, depths, line table, and every byte of the schedule store.
+use cases::Known;
+use vectors::Case;
 use vectors::Tally;
 
 mod cases;
+
+// The least schedules of model Two, and of Two with one more push.
+const TWO_STEPS: [u8; 8] = [0, 0, 0, 1, 1, 0, 2, 2];
+
+const PUSHED: [u8; 10] = [0, 0, 0, 0, 0, 1, 1, 0, 2, 2];
 
 // A model with 64 rules in A, which remove every symbol in every state. The target is state 1.
 const MANY: [u8; 131] = *b"\x48\x01\x40\
@@ -15,12 +22,12 @@ const MANY: [u8; 131] = *b"\x48\x01\x40\
 
 // The model that a record holds is Clear.
 fn clear(bytes: &[u8]) -> bool {
-    cases::agrees(bytes, cases::clear(), &[])
+    cases::agrees(bytes, cases::clear(), &[], &[])
 }
 
-// It is Found in so many steps, with these depths of A and B, each 0 where it is not known.
-fn found(bytes: &[u8], steps: usize, a: usize, b: usize) -> bool {
-    cases::agrees(bytes, cases::found(steps, a, b), &[])
+// It is Found with these depths of A and B and this least schedule.
+fn found(bytes: &[u8], a: usize, b: usize, least: &[u8]) -> bool {
+    cases::agrees(bytes, cases::found(least.len() / 2, a, b), &[], least)
 }
 
 // The models of document 01. Without its first rule, Two's thread A has an empty stack after its step.
@@ -29,13 +36,13 @@ fn document() -> Tally {
     let two = vectors::TWO;
     let once = vectors::TWO_ONCE;
     let mut t = Tally::new();
-    t = t.counted(cases::agrees(&one, cases::found(1, 1, 1), b"\x27"));
-    t = t.counted(found(&two, 4, 2, 1));
-    t = t.counted(cases::agrees(&once, cases::clear(), b"\x13\x06\x00"));
+    t = t.counted(cases::agrees(&one, cases::found(1, 1, 1), b"\x27", &[0, 0]));
+    t = t.counted(found(&two, 2, 1, &TWO_STEPS));
+    t = t.counted(cases::agrees(&once, cases::clear(), b"\x13\x06\x00", &[]));
     t = t.counted(clear(b"\xCA\x01\x03\x02\x01\x00\x01\x01\x20\x03\x01\x03\x10\x02\x00"));
     t = t.counted(clear(b"\xC8\x03\x02\x01\x00\x01\x01\x20\x03\x01\x03\x10\x02\x00"));
     t = t.counted(clear(b"\xCA\x03\x03\x02\x01\x00\x01\x01\x20\x03\x01\x03\x10\x02\x00"));
-    t.counted(found(b"\x08\x00", 0, 1, 1))
+    t.counted(found(b"\x08\x00", 1, 1, &[]))
 }
 
 // Tops: the start has it or not; One's A has an empty stack after its step, which moves no line; Two's A needs one more push, and B none; a
@@ -43,22 +50,27 @@ fn document() -> Tally {
 fn tops() -> Tally {
     let one = *b"\x4B\x02\x01\x81\x01\x00\x01\x01\x00\x01";
     let mut t = Tally::new();
-    t = t.counted(found(b"\x08\x80\x01\x00", 0, 1, 1));
+    t = t.counted(found(b"\x08\x80\x01\x00", 1, 1, &[]));
     t = t.counted(clear(b"\x08\x80\x01\x01"));
-    t = t.counted(cases::agrees(&one, cases::clear(), b"\x27"));
+    t = t.counted(cases::agrees(&one, cases::clear(), b"\x27", &[]));
     t = t.counted(found(
         b"\xC8\x83\x01\x00\x03\x06\x00\x00\x00\x01\x00\x01\x01\x20\x03\x01\x03\x10\x02\x00",
-        5,
         3,
         1,
+        &PUSHED,
     ));
     t = t.counted(found(
         b"\xC8\x83\x02\x00\x03\x06\x00\x00\x00\x01\x00\x01\x01\x20\x03\x01\x03\x10\x02\x00",
-        4,
         2,
         1,
+        &TWO_STEPS,
     ));
-    t.counted(found(b"\x88\x81\x02\x00\x02\x07\x00\x01\x01\x00\x00\x11", 2, 1, 2))
+    t.counted(found(
+        b"\x88\x81\x02\x00\x02\x07\x00\x01\x01\x00\x00\x11",
+        1,
+        2,
+        &[1, 0, 1, 1],
+    ))
 }
 
 // Held rules: One's rule, which empties the stack; a target that is passed inside a held stretch alone; Two with A's rule 0 held, which
@@ -69,14 +81,14 @@ fn held() -> Tally {
     let inside =
         *b"\x4B\x02\x01\x81\x04\x01\x00\x00\x00\x00\x00\x00\x00\x02\x03\x00\x01\x00\x03\x10\x00\x01";
     let mut t = Tally::new();
-    t = t.counted(cases::agrees(&one, cases::clear(), b"\x05"));
-    t = t.counted(cases::agrees(&inside, cases::clear(), b"\x05"));
+    t = t.counted(cases::agrees(&one, cases::clear(), b"\x05", &[]));
+    t = t.counted(cases::agrees(&inside, cases::clear(), b"\x05", &[]));
     t = t.counted(found(
         b"\xC8\x83\x04\x01\x00\x00\x00\x00\x00\x00\x00\
           \x03\x06\x00\x00\x00\x01\x00\x01\x01\x20\x03\x01\x03\x10\x02\x00",
-        4,
         2,
         1,
+        &TWO_STEPS,
     ));
     t = t.counted(clear(
         b"\xC8\x83\x04\x02\x00\x00\x00\x00\x00\x00\x00\
@@ -89,36 +101,41 @@ fn held() -> Tally {
     t = t.counted(found(
         b"\xC8\x83\x0C\x01\x00\x00\x00\x00\x00\x00\x00\x01\x00\x00\x00\x00\x00\x00\x00\
           \x03\x06\x00\x00\x00\x01\x00\x01\x01\x20\x03\x02\x03\x10\x02\x00\x02\x20\x00",
-        5,
         2,
         1,
+        &[0, 0, 0, 1, 1, 0, 1, 1, 2, 2],
     ));
     t.counted(found(
         b"\xC8\x83\x05\x00\x01\x00\x00\x00\x00\x00\x00\x00\
           \x03\x06\x00\x00\x00\x01\x00\x01\x01\x20\x03\x01\x03\x10\x02\x00",
-        5,
         3,
         1,
+        &PUSHED,
     ))
 }
 
-// Depths: both stacks grow, B's more; B's grows, shrinks and grows again; and two shortest schedules with unlike depths, of which either
-// will do.
+// Depths: both stacks grow, B's more; B's grows, shrinks and grows again; and two shortest schedules with unlike depths, of which the first
+// counts.
 fn depths() -> Tally {
     let mut t = Tally::new();
     t = t.counted(found(
         b"\xC8\x03\x01\x07\x00\x01\x00\x00\x02\x07\x10\x02\x00\x00\x07\x20\x03\x00\x00",
-        3,
         2,
         3,
+        &[0, 0, 1, 0, 1, 1],
     ));
     t = t.counted(found(
         b"\x88\x03\x03\x07\x00\x01\x00\x00\x01\x10\x02\x07\x20\x03\x00\x00",
-        3,
         1,
         2,
+        &[1, 0, 1, 1, 1, 2],
     ));
-    t.counted(found(b"\x48\x01\x02\x03\x00\x01\x00\x07\x00\x01\x00\x00", 1, 0, 0))
+    t.counted(found(
+        b"\x48\x01\x02\x03\x00\x01\x00\x07\x00\x01\x00\x00",
+        1,
+        1,
+        &[0, 0],
+    ))
 }
 
 // Stores of just the size needed, and one byte less; models that no record holds: no states at all, a thread with 65 rules, a top that is
@@ -128,11 +145,12 @@ fn limits() -> Tally {
     let two = vectors::TWO;
     let once = vectors::TWO_ONCE;
     let mut t = Tally::new();
-    t = t.counted(cases::fits(&two, cases::found(4, 2, 1), 43));
-    t = t.counted(cases::fits(&once, cases::clear(), 3));
+    t = t.counted(cases::fits(&two, cases::found(4, 2, 1), &TWO_STEPS, 43));
+    t = t.counted(cases::fits(&once, cases::clear(), &[], 3));
     t = t.counted(cases::fits(
         b"\xCA\x03\x03\x02\x01\x00\x01\x01\x20\x03\x01\x03\x10\x02\x00",
         cases::clear(),
+        &[],
         683,
     ));
     t = t.counted(clear(&MANY));
@@ -153,25 +171,37 @@ fn limits() -> Tally {
     t.counted(cases::refuses(empty.model, 3))
 }
 
-// One case of a file after another: a record with its length, its verdict, its steps in two bytes, and the line table with its
-// length, which is 0 where none is given.
+// The case at a place of a file: a record with its length, its verdict, its steps in two bytes, the line table with its length, the depths
+// of A and B in two bytes each, and the least schedule with its length.
+fn case_at(s: &[u8], at: usize) -> Case {
+    let end = vectors::past(s, at);
+    let to = vectors::past(s, end + 3);
+    let known = Known {
+        kind: vectors::byte_at(s, end),
+        steps: vectors::number_at(s, end + 1),
+        a: vectors::number_at(s, to),
+        b: vectors::number_at(s, to + 2),
+    };
+    let bytes = vectors::part(s, at);
+    let table = vectors::part(s, end + 3);
+    let least = vectors::part(s, to + 4);
+    Case {
+        agrees: cases::agrees(bytes, known, table, least),
+        next: vectors::past(s, to + 4),
+    }
+}
+
+// One case of a file after another.
 fn corpus(s: &[u8]) -> Tally {
     let mut t = Tally::new();
     let mut at = 0;
     while at < s.len() {
-        let model = vectors::part_at(s, at);
-        let start = model.start;
-        let end = model.end;
-        let kind = vectors::byte_at(s, end);
-        let steps = vectors::number_at(s, end + 1);
-        let table = vectors::part_at(s, end + 3);
-        let from = table.start;
-        let to = table.end;
-        t = t.counted(cases::agrees(&s[start..end], cases::stored(kind, steps), &s[from..to]));
-        if to <= at {
+        let c = case_at(s, at);
+        t = t.counted(c.agrees);
+        if c.next <= at {
             return t;
         }
-        at = to;
+        at = c.next;
     }
     t
 }
@@ -182,14 +212,16 @@ fn file(name: &[u8], store: &mut [u8]) {
     corpus(&store[0..n]).report(name);
 }
 
-// The files: the models of bindings/cases.txt with tops, and those that double their steps, nest deepest and take longest; then random
-// ones.
+// The files: the models of bindings/cases.txt with tops, and those that double their steps, nest deepest and take longest; models with
+// several shortest schedules; then random ones.
 fn files() {
-    let mut store = [0u8; 370000];
+    let mut store = [0u8; 610000];
     file(b"tops.bin", &mut store);
     file(b"deep.bin", &mut store);
+    file(b"ties.bin", &mut store);
     file(b"verdicts-1.bin", &mut store);
     file(b"verdicts-2.bin", &mut store);
+    file(b"verdicts-3.bin", &mut store);
 }
 
 fn main() {

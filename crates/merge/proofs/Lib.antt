@@ -3,6 +3,7 @@ pub mod Answers
 pub mod Ascending
 pub mod Carried
 pub mod Clashes
+pub mod Determined
 pub mod Filling
 pub mod Flags
 pub mod Heads

@@ -5,6 +5,7 @@ use model::Model;
 use record::Answer;
 use record::Reading;
 use record::Written;
+use vectors::Case;
 use vectors::Tally;
 
 // What every byte of a store holds before a call.
@@ -173,28 +174,30 @@ fn values() -> Tally {
     t.counted(refuses(one, unlisted, 11))
 }
 
-// One case of the file after another: two records with their lengths, the answer, and the record of both with its length.
+// The case at a place of a file: two records with their lengths, the answer, and the record of both with its length.
+fn case_at(s: &[u8], at: usize) -> Case {
+    let end = vectors::past(s, at);
+    let to = vectors::past(s, end);
+    let first = vectors::part(s, at);
+    let second = vectors::part(s, end);
+    let whole = vectors::part(s, to + 1);
+    Case {
+        agrees: case(first, second, vectors::byte_at(s, to), whole),
+        next: vectors::past(s, to + 1),
+    }
+}
+
+// One case of a file after another.
 fn corpus(s: &[u8]) -> Tally {
     let mut t = Tally::new();
     let mut at = 0;
     while at < s.len() {
-        let first = vectors::part_at(s, at);
-        let start = first.start;
-        let end = first.end;
-        let second = vectors::part_at(s, end);
-        let from = second.start;
-        let to = second.end;
-        if s.len() <= to {
+        let c = case_at(s, at);
+        t = t.counted(c.agrees);
+        if c.next <= at {
             return t;
         }
-        let whole = vectors::part_at(s, to + 1);
-        let top = whole.start;
-        let bottom = whole.end;
-        t = t.counted(case(&s[start..end], &s[from..to], s[to], &s[top..bottom]));
-        if bottom <= at {
-            return t;
-        }
-        at = bottom;
+        at = c.next;
     }
     t
 }

@@ -53,7 +53,7 @@ one-most true = omega arith
 one-most false = omega arith
 
 -- Numbers of k bits are the same if their bits are.
-same-bits : (k b c : ℕ) → b < 2 ^ k → c < 2 ^ k → ((j : ℕ) → j < k → bit j b ≡ bit j c) → b ≡ c
+pub same-bits : (k b c : ℕ) → b < 2 ^ k → c < 2 ^ k → ((j : ℕ) → j < k → bit j b ≡ bit j c) → b ≡ c
 same-bits zero b c h l e = omega arith
 same-bits (suc k) b c h l e =
     let double = pow-succ' 2 k in

@@ -2,6 +2,8 @@ pub mod Alike
 pub mod Bytes
 pub mod Checks
 pub mod Deepest
+pub mod Determined
+pub mod Firsts
 pub mod Granted
 pub mod Inside
 pub mod Keys

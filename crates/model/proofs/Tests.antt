@@ -1,7 +1,7 @@
 -- Tests read as facts: a test that is computed passes exactly if what it tests holds.
 use mathlib.Core.Bool.{Bool, true, false, not, _&&_}
 use mathlib.Core.Logic.{_↔_}
-use mathlib.Core.Path.{_≡_, refl, subst}
+use mathlib.Core.Path.{_≡_, refl, sym, subst}
 use Prim.Native.Nat.{ℕ, zero, suc, _+_, _≤_, _<_}
 use native.Mathlib.Decide.{decLt}
 use native.Mathlib.Nat.{le-antisymm}
@@ -19,6 +19,11 @@ passed false t = absurd t
 pub failed : (b : Bool) → (T b → ⊥) → b ≡ false
 failed true h = absurd (h tt)
 failed false h = refl
+
+-- Two tests of the same fact agree.
+pub agree : {P : Type 0} (a b : Bool) → T a ↔ P → T b ↔ P → a ≡ b
+agree true b f g = sym (passed b (g .1 (f .0 tt)))
+agree false b f g = sym (failed b (λ t. f .1 (g .0 t)))
 
 -- A test of two parts passes exactly if both do.
 pub both : (a b : Bool) → T (a && b) ↔ (T a × T b)

@@ -1,5 +1,6 @@
 pub mod Bits
 pub mod Depths
+pub mod First
 pub mod Fits
 pub mod Lines
 pub mod Order

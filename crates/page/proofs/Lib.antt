@@ -1,4 +1,5 @@
 pub mod Answers
+pub mod Determined
 pub mod Pages
 pub mod Printing
 pub mod Shown

@@ -1,5 +1,6 @@
 // Makes pages by hand and of a file of random schedules, and compares: the answer, the page, and what the store keeps.
 use page::Paged;
+use vectors::Case;
 use vectors::Tally;
 
 // What every byte of a store holds before a call.
@@ -182,28 +183,30 @@ fn part_is(store: &[u8], at: usize, bytes: &[u8]) -> bool {
     check::same(&store[at..end], bytes)
 }
 
-// One case of the file after another: a record and a schedule with their lengths, the answer, and the page with its length in four bytes.
+// The case at a place of the file: a record and a schedule with their lengths, the answer, and the page with its length in four bytes.
+fn case_at(s: &[u8], at: usize) -> Case {
+    let end = vectors::past(s, at);
+    let to = vectors::past(s, end);
+    let bytes = vectors::part(s, at);
+    let schedule = vectors::part(s, end);
+    let page = vectors::long_part(s, to + 1);
+    Case {
+        agrees: case(bytes, schedule, vectors::byte_at(s, to), page),
+        next: vectors::past_long(s, to + 1),
+    }
+}
+
+// One case of the file after another.
 fn corpus(s: &[u8]) -> Tally {
     let mut t = Tally::new();
     let mut at = 0;
     while at < s.len() {
-        let model = vectors::part_at(s, at);
-        let start = model.start;
-        let end = model.end;
-        let schedule = vectors::part_at(s, end);
-        let from = schedule.start;
-        let to = schedule.end;
-        if s.len() <= to {
+        let c = case_at(s, at);
+        t = t.counted(c.agrees);
+        if c.next <= at {
             return t;
         }
-        let page = vectors::long_part_at(s, to + 1);
-        let top = page.start;
-        let bottom = page.end;
-        t = t.counted(case(&s[start..end], &s[from..to], s[to], &s[top..bottom]));
-        if bottom <= at {
-            return t;
-        }
-        at = bottom;
+        at = c.next;
     }
     t
 }

@@ -1,5 +1,6 @@
 pub mod Answers
 pub mod Decided
+pub mod Determined
 pub mod Files
 pub mod Fronts
 pub mod Heads

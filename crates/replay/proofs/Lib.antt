@@ -1,3 +1,4 @@
 pub mod Accepts
 pub mod Answers
+pub mod Determined
 pub mod Ranges

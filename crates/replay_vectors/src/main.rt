@@ -1,5 +1,6 @@
 // Replays document 01's schedules and a file of random ones, and compares.
 use replay::Replayed;
+use vectors::Case;
 use vectors::Tally;
 
 // A schedule of the model that a record holds gets this answer: 0 with the last shared state, whether its run ends at the target, and the
@@ -147,33 +148,33 @@ fn depths() -> Tally {
     t.counted(accepts(&held, &[1, 1, 1, 0], 0, false, 1, 2))
 }
 
-// One case of the file after another: a record and a schedule with their lengths, the answer in three bytes, and the depths in two each.
+// The case at a place of the file: a record and a schedule with their lengths, the answer in three bytes, and the depths in two each.
+fn case_at(s: &[u8], at: usize) -> Case {
+    let end = vectors::past(s, at);
+    let to = vectors::past(s, end);
+    let bytes = vectors::part(s, at);
+    let schedule = vectors::part(s, end);
+    let last = vectors::byte_at(s, to + 1);
+    let target = vectors::byte_at(s, to + 2) == 1;
+    let a = vectors::number_at(s, to + 3);
+    let b = vectors::number_at(s, to + 5);
+    Case {
+        agrees: agrees(bytes, schedule, vectors::byte_at(s, to), last, target, a, b),
+        next: to + 7,
+    }
+}
+
+// One case of the file after another.
 fn corpus(s: &[u8]) -> Tally {
     let mut t = Tally::new();
     let mut at = 0;
     while at < s.len() {
-        let model = vectors::part_at(s, at);
-        let start = model.start;
-        let end = model.end;
-        let schedule = vectors::part_at(s, end);
-        let from = schedule.start;
-        let to = schedule.end;
-        let next = to + 7;
-        let last = vectors::byte_after(s, to, 1);
-        let target = vectors::byte_after(s, to, 2) == 1;
-        t = t.counted(agrees(
-            &s[start..end],
-            &s[from..to],
-            vectors::byte_at(s, to),
-            last,
-            target,
-            vectors::number_at(s, to + 3),
-            vectors::number_at(s, to + 5),
-        ));
-        if next <= at {
+        let c = case_at(s, at);
+        t = t.counted(c.agrees);
+        if c.next <= at {
             return t;
         }
-        at = next;
+        at = c.next;
     }
     t
 }

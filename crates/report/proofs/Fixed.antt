@@ -1,24 +1,16 @@
 -- What is printed for a model that is Clear is fixed: the marked lines are, so each length has one number of them.
-use mathlib.Core.Bool.{Bool, true, false}
+use mathlib.Core.Bool.{Bool}
 use mathlib.Core.List.{List}
-use mathlib.Core.Logic.{_↔_}
 use mathlib.Core.Path.{_≡_, refl, sym, _∙_}
 use Prim.Native.Nat.{ℕ, zero, suc, _*_, _^_, _≤_}
 use native.Mathlib.Omega.{arith}
-use lib.Dec.{T}
 use Rattle.model.specs.declared.Model.{Model}
 use Rattle.model.specs.Lines.{Line, digits}
 use Rattle.model.proofs.Positions.{digits-line}
+use Rattle.model.proofs.Tests.{agree}
 use Rattle.report.specs.Prints.{Counts}
 use Rattle.report.specs.Text.{countLines}
 use Rattle.report.proofs.Counting.{count-same}
-
--- Two tests of the same fact agree.
-agree : {P : Type 0} (a b : Bool) → T a ↔ P → T b ↔ P → a ≡ b
-agree true true p q = refl
-agree true false p q = absurd (q .1 (p .0 tt))
-agree false true p q = absurd (p .1 (q .0 tt))
-agree false false p q = refl
 
 -- The same lines are printed of sets that agree.
 lines-same : (g k : ℕ) (f h : List ℕ → Bool) → ((line : List ℕ) → Line g k line → f line ≡ h line) → (n : ℕ) → n ≤ 2 * k

@@ -1,4 +1,5 @@
 pub mod Counting
+pub mod Determined
 pub mod Fixed
 pub mod Listing
 pub mod Putting

@@ -63,10 +63,10 @@ tells-clear {m} {table = table} j t =
 
 -- There is room for the text of the schedule.
 pub found-room : {m : Model} {n : ℕ} {depths : Depths} {old new : List ℕ} → Valid m → n ≤ mostSteps
-    → (s : Stored (Witness m depths) n 0 old new) → 2 * n ≤ length old
+    → (s : Stored (Witness m n depths) n 0 old new) → 2 * n ≤ length old
     → length (foundLine n depths ++ stepLines (stepsOf (take (2 * n) new))) ≤ textRoom
 found-room {m} v h s l =
-    rw (stored-steps s l, s .run .deep) (found-short (valid-fits m .0 v) (s .run .reaches .leads) (s .count) h)
+    rw (stored-steps s l, s .run .deep) (found-short (valid-fits m .0 v) (s .run .least .run .leads) (s .count) h)
 
 -- The line of a refusal is short.
 pub refused-short : (n : ℕ) → n < 256 → length (line refusedWord n) ≤ 13
@@ -74,12 +74,12 @@ refused-short n h = omega (arith, length-line refusedWord n, digits-4 n (omega a
 
 -- The text of a model that is Found.
 pub tells-found : {m : Model} {n : ℕ} {depths : Depths} {ss : List Step} {old new : List ℕ} → Judged m (found n)
-    → (s : Stored (Witness m depths) n 0 old new) → ss ≡ s .steps → Told m (foundLine n depths ++ stepLines ss)
+    → (s : Stored (Witness m n depths) n 0 old new) → ss ≡ s .steps → Told m (foundLine n depths ++ stepLines ss)
 tells-found {n = n} j s e =
     record {
       verdict = found n;
       judged = j;
-      tells = record { steps = s .steps; run = s .run .reaches; count = s .count; shown = rw (e, s .run .deep) };
+      tells = record { steps = s .steps; run = s .run .least; count = s .count; shown = rw (e, s .run .deep) };
     }
 
 -- The text of a model that is Long.

@@ -10,7 +10,8 @@ use Rattle.model.specs.declared.Model.{Model}
 use Rattle.model.specs.Depths.{depthsOf}
 use Rattle.model.specs.Lines.{Line}
 use Rattle.model.specs.Results.{refused, accepted}
-use Rattle.model.specs.Runs.{Reaches, Marked}
+use Rattle.model.specs.First.{LeastSchedule}
+use Rattle.model.specs.Runs.{Marked}
 use Rattle.model.specs.Schedules.{Shown}
 use Rattle.model.specs.Verdict.{Verdict, clear, long, found, Judged}
 use Rattle.record.specs.Reader.{Read, readOf}
@@ -24,10 +25,10 @@ pub record Counts (m : Model) (text : List ℕ) : Type 0 where
   pub marks : (line : List ℕ) → Line (m .g) (m .k) line → T (has line) ↔ Marked m line
   pub same : text ≡ clearLine ++ countLines (m .g) has (2 * m .k)
 
--- The text of Found: some schedule of so many steps that reaches the target, told by a line with the number of steps and its depths, and
--- a line for each step.
+-- The text of Found: the least schedule of so many steps that reaches the target, told by a line with the number of steps and its depths,
+-- and a line for each step.
 abbrev pub Lists : Model → ℕ → List ℕ → Type 0
-Lists m n text = Shown (Reaches m) n (λ ss. text ≡ foundLine n (depthsOf m ss) ++ stepLines ss)
+Lists m n text = Shown (LeastSchedule m n) n (λ ss. text ≡ foundLine n (depthsOf m ss) ++ stepLines ss)
 
 -- The text of a verdict on a model.
 abbrev pub Tells : Model → Verdict → List ℕ → Type 0

@@ -1,4 +1,3 @@
-pub mod Best
 pub mod Capped
 pub mod CellNumbers
 pub mod Complete

@@ -1,15 +1,15 @@
 -- A table that is closed under the moves is nowhere above what a stretch needs: by recursion on the stretch, each
--- constructor being one field of `Closed`.
-use mathlib.Core.List.{List}
+-- constructor being one field of `Closed`. And exact entries are closed.
+use mathlib.Core.List.{List, [], _∷_, _++_, append-assoc}
 use Prim.Native.Nat.{ℕ, _+_, _≤_}
 use native.Mathlib.Omega.{arith}
-use lib.ListN.{length}
+use lib.ListN.{length, length-append}
 use Rattle.model.specs.declared.Right.{Right}
 use Rattle.model.specs.declared.Right.the-variants.{Remove, Swap, Push}
 use Rattle.model.specs.declared.Symbol.{Symbol}
 use Rattle.model.specs.declared.Top.{Top}
 use Rattle.summary.specs.Stretch.{End, pop, stay, endOf, OnTop, Asks, Stretch}
-use Rattle.summary.specs.Table.{cap}
+use Rattle.summary.specs.Table.{cap, Exact}
 
 -- The new symbols of a right side are symbols of the table.
 abbrev pub Symbols : (ℕ → Type 0) → Right → Type 0
@@ -82,3 +82,40 @@ module _ {C S : Type 0} (Move : C → ℕ → S → Right → C → Type 0) (Swi
       let h = bounded R K (R .switches p s) q k r in
       let e = K .change γ d p q (h .inside, k) s (h .reached) in
       record { inside = h .inside; reached = e .reached; most = omega (arith, e .most, h .most) }
+
+module _ {C S : Type 0} (Move : C → ℕ → S → Right → C → Type 0) (Switch : C → C → Type 0) (T : C → ℕ → End C → ℕ) where
+  -- Exact entries are closed: what is made of stretches that exist is one that exists, and its entry is no more.
+  pub exact-closed : {Ctl : C → Type 0} {Sym : ℕ → Type 0} {Ask : Top → C → Type 0} → Ranged Move Switch Ctl Sym
+      → ((c : C) (γ : ℕ) (d : End C) → Ctl c → Sym γ → Dest Move Switch Ctl Sym Ask d → Exact Move Switch c γ d (T c γ d))
+      → Closed Move Switch Ctl Sym Ask T
+  exact-closed R E =
+      record {
+        here = λ top c γ p q k o.
+            let l = E c γ (stay top c) p q (p, k) .least {ss = []} (λ rest. Stretch.here o) in
+            record { reached = l .0; most = l .1 };
+        remove = λ {c} {c₁} {γ} {s} p q m.
+            let l = E c γ (pop c₁) p q (R .moves p m .0, tt) .least {ss = s ∷ []} (λ rest. Stretch.remove m) in
+            record { reached = l .0; most = l .1 };
+        swap = λ {c} {c₁} {γ} {s} {a} d p q o m h.
+            let i = R .moves p m in
+            let u = E c₁ (a .0) d (i .0) (i .1) o .some h in
+            let l = E c γ d p q o .least {ss = s ∷ u .0} (λ rest. Stretch.swap m (u .1 rest)) in
+            record { reached = l .0; most = omega (arith, l .0, l .1, u .2) };
+        both = λ {c} {c₁} {γ} {s} {a} {b} r d p q y o m h k.
+            let i = R .moves p m in
+            let u = E c₁ (a .0) (pop r) (i .0) (i .1 .0) (y, tt) .some h in
+            let v = E r (b .0) d y (i .1 .1) o .some k in
+            let l =
+            E c γ d p q o .least {ss = s ∷ (u .0 ++ v .0)}
+            (λ rest. rw append-assoc (Stretch.both m (u .1 (v .0 ++ rest)) (v .1 rest))) in
+            record { reached = l .0; most = omega (arith, l .0, l .1, u .2, v .2, length-append (u .0) (v .0)) };
+        above = λ {c} {c₁} {γ} {s} {a} {b} top r p q y k m h.
+            let i = R .moves p m in
+            let u = E c₁ (a .0) (stay top r) (i .0) (i .1 .0) (y, k) .some h in
+            let l = E c γ (stay top r) p q (y, k) .least {ss = s ∷ u .0} (λ rest. Stretch.above m (u .1 rest)) in
+            record { reached = l .0; most = omega (arith, l .0, l .1, u .2) };
+        change = λ {c} {c₁} γ d p q o s h.
+            let u = E c₁ γ d (R .switches p s) q o .some h in
+            let l = E c γ d p q o .least {ss = u .0} (λ rest. Stretch.change s (u .1 rest)) in
+            record { reached = l .0; most = omega (arith, l .0, l .1, u .2) };
+      }

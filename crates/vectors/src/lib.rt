@@ -18,6 +18,12 @@ pub struct Tally {
     pub differ: u64,
 }
 
+// One case of a file: whether it agrees with what is stored, and the place behind it.
+pub struct Case {
+    pub agrees: bool,
+    pub next: usize,
+}
+
 // A part of a file: from start up to, not including, end.
 pub struct Span {
     pub start: usize,
@@ -64,16 +70,6 @@ pub fn byte_at(s: &[u8], at: usize) -> u8 {
     if at < s.len() { s[at] } else { 0 }
 }
 
-// The byte so many places further on, or 0 past the end.
-pub fn byte_after(s: &[u8], at: usize, more: usize) -> u8 {
-    if at < s.len() {
-        let left = s.len() - at;
-        if more < left { s[at + more] } else { 0 }
-    } else {
-        0
-    }
-}
-
 fn wide(b: u8) -> usize
     ensures { λ r. ⌜ r < 256 ⌝ }
 {
@@ -91,7 +87,7 @@ pub fn number_at(s: &[u8], at: usize) -> usize
     }
 }
 
-// The part at a place: its length in two bytes, and then so many bytes. What a file cut short lacks is left out.
+// Where the part at a place lies: its length in two bytes, and then so many bytes. What a file cut short lacks is left out.
 pub fn part_at(s: &[u8], at: usize) -> Span
     ensures { λ r. ⌜ (r .start ≤ r .end) × (r .end ≤ length (now (s .entry))) ⌝ }
 {
@@ -102,8 +98,24 @@ pub fn part_at(s: &[u8], at: usize) -> Span
     part_of(n, at, 2, number_at(s, at))
 }
 
-// The same with a length in four bytes.
-pub fn long_part_at(s: &[u8], at: usize) -> Span
+// The bytes of the part at a place.
+pub fn part(s: &[u8], at: usize) -> &[u8] {
+    let span = part_at(s, at);
+    let start = span.start;
+    let end = span.end;
+    &s[start..end]
+}
+
+// The place behind it.
+pub fn past(s: &[u8], at: usize) -> usize
+    ensures { λ r. ⌜ r ≤ length (now (s .entry)) ⌝ }
+{
+    let span = part_at(s, at);
+    span.end
+}
+
+// The same where the length has four bytes.
+fn long_part_at(s: &[u8], at: usize) -> Span
     ensures { λ r. ⌜ (r .start ≤ r .end) × (r .end ≤ length (now (s .entry))) ⌝ }
 {
     let n = s.len();
@@ -111,6 +123,18 @@ pub fn long_part_at(s: &[u8], at: usize) -> Span
         return Span { start: n, end: n };
     }
     part_of(n, at, 4, number_at(s, at) + 65536 * number_at(s, at + 2))
+}
+
+pub fn long_part(s: &[u8], at: usize) -> &[u8] {
+    let span = long_part_at(s, at);
+    let start = span.start;
+    let end = span.end;
+    &s[start..end]
+}
+
+pub fn past_long(s: &[u8], at: usize) -> usize {
+    let span = long_part_at(s, at);
+    span.end
 }
 
 // The part of `size` bytes behind a length that stands in `bytes` bytes at a place of a file of n bytes.

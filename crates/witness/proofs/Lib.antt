@@ -1,10 +1,4 @@
-pub mod Firsts
-pub mod Heads
+pub mod FirstMerged
 pub mod Merging
-pub mod Plans
-pub mod Sayings
 pub mod Sides
-pub mod Stored
-pub mod Threads
 pub mod Whole
-pub mod Writers

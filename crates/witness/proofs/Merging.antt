@@ -16,7 +16,7 @@ use Rattle.model.specs.declared.ThreadId.{ThreadId}
 use Rattle.model.specs.declared.ThreadId.the-variants.{A, B}
 use Rattle.model.specs.Walk.{ownerOf, Stacks, startStacks, Step}
 use Rattle.costs.specs.View.{View, stop, skip, end, move}
-use Rattle.costs.proofs.Views.{Merged, none, left, right, topsOf, under-tops, merged-views}
+use Rattle.costs.proofs.Views.{Merged, none, left, right, topsOf, under-tops, merged-views, under-views}
 use Rattle.witness.specs.Merge.{merged}
 
 -- The turns of steps ascend from turn t on.
@@ -25,7 +25,7 @@ Ascends t [] = Unit {0}
 Ascends t (s ∷ ss) = (t ≤ s .turn) × Ascends (s .turn) ss
 
 -- All steps are made in turns of a thread.
-abbrev Owned : ThreadId → List Step → Type 0
+abbrev pub Owned : ThreadId → List Step → Type 0
 Owned i [] = Unit {0}
 Owned i (s ∷ ss) = (ownerOf (s .turn) ≡ i) × Owned i ss
 
@@ -36,13 +36,13 @@ earlier (s ∷ ss) h (k, r) = (le-trans h k, r)
 
 module _ {m : Model} where
   -- A run's steps ascend ..
-  ascends : {t g : ℕ} {held : Bool} {σ τ : Stacks} {line : List ℕ} {ss : List Step} → Turns m t held g σ line ss τ → Ascends t ss
+  pub ascends : {t g : ℕ} {held : Bool} {σ τ : Stacks} {line : List ℕ} {ss : List Step} → Turns m t held g σ line ss τ → Ascends t ss
   ascends stop = tt
   ascends {ss = ss} (end r) = earlier ss (omega arith) (ascends r)
   ascends {t} (move e p r) = (le-refl t, ascends r)
 
   -- .. and a view's are the thread's own.
-  owned : {i : ThreadId} {top : Top} {t g : ℕ} {held : Bool} {w line : List ℕ} {ss : List Step} → View m i top t held g w line ss
+  pub owned : {i : ThreadId} {top : Top} {t g : ℕ} {held : Bool} {w line : List ℕ} {ss : List Step} → View m i top t held g w line ss
       → Owned i ss
   owned (stop k) = tt
   owned (skip e v) = owned v
@@ -60,7 +60,7 @@ second-from (left r) (h, k) = le-trans h (second-from r k)
 second-from (right r) (h, k) = h
 
 -- A turn of B's that is not after one of A's is before it.
-before : (t u : ℕ) → ownerOf t ≡ B → ownerOf u ≡ A → t ≤ u → t < u
+pub before : (t u : ℕ) → ownerOf t ≡ B → ownerOf u ≡ A → t ≤ u → t < u
 before t u b a h =
     let differ : t ≡ u → ⊥ = λ e. let z : _≡_ {A = ℕ} 0 1 = cc in omega arith in
     omega arith
@@ -72,7 +72,7 @@ merge-nothing [] = refl
 merge-nothing (x ∷ xs) = refl
 
 -- A merged list that ascends is merged by turn.
-by-turn : {xs ys ss : List Step} → Merged xs ys ss → (t : ℕ) → Owned A xs → Owned B ys → Ascends t ss → ss ≡ merged xs ys
+pub by-turn : {xs ys ss : List Step} → Merged xs ys ss → (t : ℕ) → Owned A xs → Owned B ys → Ascends t ss → ss ≡ merged xs ys
 unfolding merged
 by-turn none t a b h = refl
 by-turn {xs = x ∷ xs} {ys = []} (left r) t (o, a) b (h, k) = rw (by-turn r (x .turn) a b k, merge-nothing)
@@ -105,3 +105,17 @@ merge-length (x ∷ xs) (y ∷ ys) =
     either (leb (x .turn) (y .turn)) (x ∷ merged xs (y ∷ ys)) (y ∷ merged (x ∷ xs) ys)
     (omega (arith, merge-length xs (y ∷ ys)))
     (omega (arith, merge-length (x ∷ xs) ys))
+
+-- A run to the tops that a model names is both threads' views of its line, merged by turn.
+pub record Parted (m : Model) (line : List ℕ) (ss : List Step) : Type 0 where
+  pub xs : List Step
+  pub ys : List Step
+  pub a : View m A (m .a .top) 0 false (m .start .0) (m .a .first .0 ∷ []) line xs
+  pub b : View m B (m .b .top) 0 false (m .start .0) (m .b .first .0 ∷ []) line ys
+  pub all : ss ≡ merged xs ys
+
+-- Each such run parts so.
+pub parts : {m : Model} {line : List ℕ} {ss : List Step} → EndsUnder m line ss → Parted m line ss
+parts {m} (σ, r, h) =
+    let v = under-views (σ, r, h) in
+    record { xs = v .xs; ys = v .ys; a = v .a; b = v .b; all = by-turn (v .all) 0 (owned (v .a)) (owned (v .b)) (ascends r) }

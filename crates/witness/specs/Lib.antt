@@ -1,4 +1,3 @@
 pub mod Chosen
-pub mod Goals
 pub mod Merge
-pub mod Plan
+pub mod Solves

@@ -1,66 +1,97 @@
-// The schedule of a chosen line: each thread's steps along it, then both merged by turn.
+// The first of the shortest schedules along a line: each thread's first run along it, then both merged by turn.
+ghost use mathlib.Core.Path.{_≡_};
 ghost use Prim.Native.Nat.{_+_, _*_, _≤_};
 ghost use lib.ListN.{length};
+ghost use Rattle.model.specs.First.{First};
 ghost use Rattle.model.specs.Fits.{Fits};
 ghost use Rattle.model.specs.Lines.{digits};
 ghost use Rattle.model.specs.Runs.{EndsUnder};
 ghost use Rattle.model.specs.Schedules.{mostBytes, Stored};
+ghost use Rattle.costs.specs.Lanes.{TableFor};
+ghost use Rattle.run.specs.Levels.{levelsSize};
 ghost use Rattle.witness.specs.Chosen.{Chosen};
+ghost use Rattle.witness.specs.Solves.{Solves, FirstOfA, FirstOfB};
 
-mod goal;
 mod merge;
-mod onward;
-mod plan;
-mod solve;
-mod steps;
-mod stretch;
-mod tight;
 
 use model::MOST_BYTES;
 use model::Model;
 use model::ThreadId;
+use run::levels::LEVELS;
+use run::solve::base;
+use run::steps::steps;
 
-// Writes a shortest schedule along the full line whose value is v to the tops that the model names, where x and y are the least steps
-// of A and of B along it.
-pub fn write(m: Model, v: usize, x: u16, y: u16, schedule: &mut [u8])
-    requires { ⌜ Fits m ⌝ ∗ ⌜ Chosen m v x y ⌝ ∗ ⌜ mostBytes ≤ length (now schedule) ⌝ }
-    ensures { λ _. ⌜
-        Stored (EndsUnder m (digits (m .g) (2 * m .k) v)) (x + y) 0
-        (now (schedule .entry)) (now (schedule .exit))
-        ⌝ }
+// Solves what the schedules of all lines share: the table of A in a, that of B in b.
+pub fn prepare(m: Model, a: &mut [u16], b: &mut [u16])
+    requires { ⌜ Fits m ⌝ ∗ ⌜ TableFor m (now a) ⌝ ∗ ⌜ TableFor m (now b) ⌝ }
+    ensures { λ _. ⌜ Solves m (now (a .exit)) (now (b .exit)) ⌝ }
 {
     let g = m.g as usize;
     let n = m.k as usize - 1;
-    let start = m.start.0 as usize;
-    let mut a = [0u8; MOST_BYTES];
-    let mut b = [0u8; MOST_BYTES];
     let one = m.a;
     let other = m.b;
     let top_one = one.top;
     let top_other = other.top;
-    steps::steps(
-        one,
-        top_one,
-        g,
-        n,
-        ThreadId::A,
-        start,
-        v,
-        x as usize,
-        &mut a,
-    );
-    steps::steps(
-        other,
-        top_other,
-        g,
-        n,
-        ThreadId::B,
-        start,
-        v,
-        y as usize,
-        &mut b,
-    );
-    let end_a = 2 * x as usize;
-    let end_b = 2 * y as usize;
-    merge::merge(&a[..end_a], &b[..end_b], schedule);
+    base(a, g, n, top_one, one);
+    base(b, g, n, top_other, other);
+}
+
+// Writes the first of the shortest schedules along the full line whose value is v to the tops that the model names, where x and y are
+// the least steps of A and of B along it.
+pub fn write(
+    m: Model,
+    v: usize,
+    x: u16,
+    y: u16,
+    a: &mut [u16],
+    b: &mut [u16],
+    levels: &mut [u16; LEVELS],
+    schedule: &mut [u8],
+)
+    requires { ⌜ Fits m ⌝ ∗ ⌜ Chosen m v x y ⌝ ∗ ⌜ Solves m (now a) (now b) ⌝
+        ∗ ⌜ (length (now levels) ≡ levelsSize) × (mostBytes ≤ length (now schedule)) ⌝ }
+    ensures first { λ _. ⌜
+        Stored (First (EndsUnder m (digits (m .g) (2 * m .k) v)) (x + y)) (x + y) 0
+        (now (schedule .entry)) (now (schedule .exit))
+        ⌝ }
+    ensures tables { λ _. ⌜ Solves m (now (a .exit)) (now (b .exit)) ⌝ }
+    ensures size { λ _. ⌜ length (now (levels .exit)) ≡ levelsSize ⌝ }
+{
+    let mut one = [0u8; MOST_BYTES];
+    let mut other = [0u8; MOST_BYTES];
+    both(m, v, x, y, a, b, levels, &mut one, &mut other);
+    let end_one = 2 * x as usize;
+    let end_other = 2 * y as usize;
+    merge::merge(&one[..end_one], &other[..end_other], schedule);
+}
+
+// Writes each thread's first run along the line.
+fn both(
+    m: Model,
+    v: usize,
+    x: u16,
+    y: u16,
+    a: &mut [u16],
+    b: &mut [u16],
+    levels: &mut [u16; LEVELS],
+    one: &mut [u8; MOST_BYTES],
+    other: &mut [u8; MOST_BYTES],
+)
+    requires { ⌜ Fits m ⌝ ∗ ⌜ Chosen m v x y ⌝ ∗ ⌜ Solves m (now a) (now b) ⌝ ∗ ⌜ length (now levels) ≡ levelsSize ⌝ }
+    ensures first { λ _. ⌜ FirstOfA m v x (now (one .entry)) (now (one .exit)) ⌝ }
+    ensures second { λ _. ⌜ FirstOfB m v y (now (other .entry)) (now (other .exit)) ⌝ }
+    ensures tables { λ _. ⌜ Solves m (now (a .exit)) (now (b .exit)) ⌝ }
+    ensures size { λ _. ⌜ length (now (levels .exit)) ≡ levelsSize ⌝ }
+{
+    let g = m.g as usize;
+    let n = m.k as usize - 1;
+    let start = m.start.0 as usize;
+    let ta = m.a;
+    let tb = m.b;
+    let top_a = ta.top;
+    let top_b = tb.top;
+    let p = x as usize;
+    let q = y as usize;
+    steps(a, ta, top_a, g, n, ThreadId::A, start, v, p, levels, one);
+    steps(b, tb, top_b, g, n, ThreadId::B, start, v, q, levels, other);
 }

@@ -1,7 +1,7 @@
--- `corpus` is safe and ends: each case ends past the place where it starts, and within the file.
+-- `corpus` is safe and ends: each case ends past the place where it starts.
 use Prim.Native.Nat.{_-_}
-use borrow.Author.Needs.{needs}
 use lib.ListN.{length}
+use borrow.Author.Needs.{needs}
 use Rattle.judge_vectors.proofs.corpus.Statement.{statement}
 use Rattle.judge_vectors.proofs.corpus.Tie as tie
 
@@ -17,47 +17,8 @@ new-requires c κs = search needs
 loop-holds : tie.Need-loop-holds Inv-loop μ-loop
 loop-holds c = search needs
 
-part-at-requires : tie.Need-part-at-requires Inv-loop μ-loop
-part-at-requires c κs = search needs
-
-byte-at-requires : tie.Need-byte-at-requires Inv-loop μ-loop
-byte-at-requires c κs = search needs
-
-add-number-at : tie.Need-add-number-at Inv-loop μ-loop
-add-number-at c = search needs
-
-number-at-requires : tie.Need-number-at-requires Inv-loop μ-loop
-number-at-requires c κs = search needs
-
-add-part-at : tie.Need-add-part-at Inv-loop μ-loop
-add-part-at c = search needs
-
-part-at-requires-2 : tie.Need-part-at-requires-2 Inv-loop μ-loop
-part-at-requires-2 c κs = search needs
-
-sub-agrees : tie.Need-sub-agrees Inv-loop μ-loop
-sub-agrees c = search needs
-
-part-agrees-start : tie.Need-part-agrees-start Inv-loop μ-loop
-part-agrees-start c = search needs
-
-part-agrees-end : tie.Need-part-agrees-end Inv-loop μ-loop
-part-agrees-end c = search needs
-
-stored-requires : tie.Need-stored-requires Inv-loop μ-loop
-stored-requires c κs = search needs
-
-sub-agrees-2 : tie.Need-sub-agrees-2 Inv-loop μ-loop
-sub-agrees-2 c = search needs
-
-part-agrees-start-2 : tie.Need-part-agrees-start-2 Inv-loop μ-loop
-part-agrees-start-2 c = search needs
-
-part-agrees-end-2 : tie.Need-part-agrees-end-2 Inv-loop μ-loop
-part-agrees-end-2 c = search needs
-
-agrees-requires : tie.Need-agrees-requires Inv-loop μ-loop
-agrees-requires c κs = search needs
+case-at-requires : tie.Need-case-at-requires Inv-loop μ-loop
+case-at-requires c κs = search needs
 
 counted-requires : tie.Need-counted-requires Inv-loop μ-loop
 counted-requires c κs = search needs
@@ -82,20 +43,7 @@ corpus-spec =
     μ-loop
     new-requires
     loop-holds
-    part-at-requires
-    byte-at-requires
-    add-number-at
-    number-at-requires
-    add-part-at
-    part-at-requires-2
-    sub-agrees
-    part-agrees-start
-    part-agrees-end
-    stored-requires
-    sub-agrees-2
-    part-agrees-start-2
-    part-agrees-end-2
-    agrees-requires
+    case-at-requires
     counted-requires
     returns
     loop-less

@@ -1,101 +1,88 @@
--- `write` meets its contract: each thread's steps along the line, merged by turn.
+-- `write` meets its contract: each thread's first run along the line, merged by turn.
 use mathlib.Core.Path.{sym}
 use Prim.Native.Nat.{_*_}
 use native.Mathlib.Omega.{arith}
 use lib.Seq.{length-take-le}
+use Rattle.witness.proofs.Whole.{fronts-fit, stored-size, written}
 use borrow.Author.Needs.{needs}
-use Rattle.model.specs.declared.ThreadId.the-variants.{A, B}
-use Rattle.witness.proofs.Whole.{fronts-fit, chosen-for, written}
 use Rattle.witness.proofs.write.Statement.{statement}
 use Rattle.witness.proofs.write.Tie as tie
 
-cast-g : tie.Need-cast-g
-cast-g c = search needs
+both-requires : tie.Need-both-requires
+both-requires c κs = search needs
 
-cast-n : tie.Need-cast-n
-cast-n c = search needs
+mul-end-one : tie.Need-mul-end-one
+mul-end-one c = search needs
 
-sub-n : tie.Need-sub-n
-sub-n c = search needs
+mul-end-other : tie.Need-mul-end-other
+mul-end-other c = search needs
 
-cast-start : tie.Need-cast-start
-cast-start c = search needs
-
-slice-aggregate-steps : tie.Need-slice-aggregate-steps
-slice-aggregate-steps c = search needs
-
-steps-requires : tie.Need-steps-requires
-steps-requires c κs =
-    let p = c .before .before .before .before .before .before .before .pre in
-    let l = p .1 .0 in
-    (chosen-for _ A _ _ (p .0) (p .0 .a) (l .low) (l .a) (omega (arith, l .most)), omega (arith, l .most))
-
-slice-aggregate-steps-2 : tie.Need-slice-aggregate-steps-2
-slice-aggregate-steps-2 c = search needs
-
-steps-requires-2 : tie.Need-steps-requires-2
-steps-requires-2 c κs =
-    let p = c .before .before .before .before .before .before .before .before .before .before .pre in
-    let l = p .1 .0 in
-    (chosen-for _ B _ _ (p .0) (p .0 .b) (l .low) (l .b) (omega (arith, l .most)), omega (arith, l .most))
-
-mul-end-a : tie.Need-mul-end-a
-mul-end-a c = search needs
-
-mul-end-b : tie.Need-mul-end-b
-mul-end-b c = search needs
-
-array-share-prefix-a : tie.Need-array-share-prefix-a
-array-share-prefix-a c = search needs
+array-share-prefix-one : tie.Need-array-share-prefix-one
+array-share-prefix-one c =
+    let c4 = c .before .before .before .before in
+    let c13 = c4 .before .before .before .before .before .before .before .before .before in
+    omega (arith, c13 .pre .1 .0 .most, stored-size (c4 .both .ensures .0))
 
 slice-aggregate-merge : tie.Need-slice-aggregate-merge
 slice-aggregate-merge c =
-    let c13 = c .before .before .before .before .before .before .before .before .before .before .before .before .before in
-    sym (length-take-le (2 * c13 .args .x) _ (omega (arith, c13 .pre .1 .0 .most)))
+    let c5 = c .before .before .before .before .before in
+    let c14 = c5 .before .before .before .before .before .before .before .before .before in
+    sym (length-take-le (2 * c14 .args .x) _ (omega (arith, c14 .pre .1 .0 .most, stored-size (c5 .both .ensures .0))))
 
-array-share-prefix-b : tie.Need-array-share-prefix-b
-array-share-prefix-b c = search needs
+array-share-prefix-other : tie.Need-array-share-prefix-other
+array-share-prefix-other c =
+    let c5 = c .before .before .before .before .before in
+    let c14 = c5 .before .before .before .before .before .before .before .before .before in
+    omega (arith, c14 .pre .1 .0 .most, stored-size (c5 .both .ensures .1 .0))
 
 slice-aggregate-merge-2 : tie.Need-slice-aggregate-merge-2
 slice-aggregate-merge-2 c =
-    let c14 = c .before .before .before .before .before .before .before .before .before .before .before .before .before .before in
-    sym (length-take-le (2 * c14 .args .y) _ (omega (arith, c14 .pre .1 .0 .most)))
+    let c6 = c .before .before .before .before .before .before in
+    let c15 = c6 .before .before .before .before .before .before .before .before .before in
+    sym (length-take-le (2 * c15 .args .y) _ (omega (arith, c15 .pre .1 .0 .most, stored-size (c6 .both .ensures .1 .0))))
 
 merge-requires : tie.Need-merge-requires
 merge-requires c κs =
-    let c15 = c .before .before .before .before .before .before .before .before .before .before .before .before .before .before .before in
-    let most = c15 .pre .1 .0 .most in
-    fronts-fit _ _ (c15 .args .x) (c15 .args .y) (omega (arith, most)) (omega (arith, most)) most (c15 .pre .1 .1)
+    let c7 = c .before .before .before .before .before .before .before in
+    let c16 = c7 .before .before .before .before .before .before .before .before .before in
+    let a = c16 .args in
+    let most = c16 .pre .1 .0 .most in
+    let e = c7 .both .ensures in
+    fronts-fit _ _ (a .x) (a .y) (omega (arith, most, stored-size (e .0))) (omega (arith, most, stored-size (e .1 .0))) most (c16 .pre .1 .1 .1 .1)
 
 same-length : tie.Need-same-length
 same-length c = search needs
 
+same-length-2 : tie.Need-same-length-2
+same-length-2 c = search needs
+
+same-length-3 : tie.Need-same-length-3
+same-length-3 c = search needs
+
 returns : tie.Need-returns
 returns c =
-    let c7 = c .before .before .before .before .before .before .before in
-    let c10 = c7 .before .before .before in
-    let p = c10 .before .before .before .before .before .before .before .before .pre in
-    written _ _ (p .0 .k .0) (c10 .steps .ensures) (c7 .steps2 .ensures) (omega (arith, p .1 .0 .most))
-    (omega (arith, p .1 .0 .most)) (c .before .before .merge .ensures)
+    let c10 = c .before .before .before .before .before .before .before .before .before .before in
+    let c19 = c10 .before .before .before .before .before .before .before .before .before in
+    let p = c19 .pre in
+    let most = p .1 .0 .most in
+    let e = c10 .both .ensures in (
+      written _ _ (p .0 .k .0) (p .1 .0) (e .0) (e .1 .0) (omega (arith, most)) (omega (arith, most)) (c .before .before .merge .ensures),
+      (e .1 .1 .0, e .1 .1 .1),
+    )
 
 pub write-spec : {M : Type 1} → statement M
 write-spec =
     tie.close
     (tie.spec
-    cast-g
-    cast-n
-    sub-n
-    cast-start
-    slice-aggregate-steps
-    steps-requires
-    slice-aggregate-steps-2
-    steps-requires-2
-    mul-end-a
-    mul-end-b
-    array-share-prefix-a
+    both-requires
+    mul-end-one
+    mul-end-other
+    array-share-prefix-one
     slice-aggregate-merge
-    array-share-prefix-b
+    array-share-prefix-other
     slice-aggregate-merge-2
     merge-requires
     same-length
+    same-length-2
+    same-length-3
     returns)

@@ -1,0 +1,16 @@
+pub mod Bases
+pub mod Filled
+pub mod Filling
+pub mod Goings
+pub mod Greedy
+pub mod Heads
+pub mod Moves
+pub mod Overs
+pub mod Pairing
+pub mod Plans
+pub mod Raising
+pub mod Stored
+pub mod Threads
+pub mod Tights
+pub mod Togos
+pub mod Writers
