@@ -41,6 +41,10 @@ module _ {m : Model} (f : Fits m) {n v : ℕ} {a b : List ℕ} (costs : TargetCo
 pub adds-elsewhere : {m : Model} {n v : ℕ} {kept : List ℕ} {seen : Bool} → (v % m .g ≡ m .target .0 → ⊥) → Adds m n v kept kept seen seen
 adds-elsewhere h old room l = lowest-elsewhere l h
 
+-- A line's value is below the number of all lines.
+pub below-all : {count all v : ℕ} → count ≡ all → v < all → v < count
+below-all e h = rw e h
+
 -- So many steps are n.
 counted : (m : Model) (v : ℕ) {x n : ℕ} {was fresh : List ℕ} → x ≡ n → Stored (First (AlongLine m v) x) x 0 was fresh
     → Stored (First (AlongLine m v) n) n 0 was fresh

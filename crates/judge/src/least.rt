@@ -2,6 +2,7 @@
 ghost use mathlib.Core.Bool.{true};
 ghost use mathlib.Core.Path.{_≡_};
 ghost use Prim.Native.Nat.{_+_, _*_, _%_, _^_, _≤_, _<_};
+ghost use lib.Dec.{ltb};
 ghost use lib.ListN.{length};
 ghost use Rattle.model.specs.First.{LeastSchedule};
 ghost use Rattle.model.specs.Fits.{Fits};
@@ -54,19 +55,20 @@ fn over_lines(
     requires { ⌜ Fits m ⌝ ∗ ⌜
         (fullLines ≤ length (now a)) × (fullLines ≤ length (now b)) × (mostBytes ≤ length (now schedule))
         × (length (now levels) ≡ levelsSize)
-        ⌝ ∗ ⌜ TargetCosts m (now a) (now b) ⌝ ∗ ⌜ Judged m (found steps) ⌝ ∗ ⌜ Solves m (now first) (now second) ⌝ }
+        ⌝ ∗ ⌜ TargetCosts m (now a) (now b) ⌝ ∗ ⌜ Judged m (found steps) ⌝ ∗ ⌜ Solves m (m .g ^ (2 * m .k)) (now first) (now second) ⌝ }
     ensures { λ _. ⌜ Stored (LeastSchedule m steps) steps 0 (now (schedule .entry)) (now (schedule .exit)) ⌝ }
 {
     let count = power(m.g as usize, 2 * m.k as usize);
     let mut fresh = [0u8; MOST_BYTES];
-    let mut seen = false;
+    let mut last = count;
     let mut v = 0;
     while v < count {
-        seen = with_line(
+        last = with_line(
             m,
             steps,
             v,
-            seen,
+            last,
+            count,
             a,
             b,
             first,
@@ -79,13 +81,15 @@ fn over_lines(
     }
 }
 
-// The least schedule over the lines up to v, from that over those before it, and whether there is one. Only a line to the target whose
-// two threads' least steps add up to those of a shortest schedule has one of that length.
+// The least schedule over the lines up to v, from that over those before it. Only a line to the target whose two threads' least steps add
+// up to those of a shortest schedule has one of that length. `last` is the last such line, or `count` where there was none; so is the
+// answer.
 fn with_line(
     m: Model,
     steps: usize,
     v: usize,
-    seen: bool,
+    last: usize,
+    count: usize,
     a: &[u16],
     b: &[u16],
     first: &mut [u16],
@@ -93,29 +97,41 @@ fn with_line(
     levels: &mut [u16; LEVELS],
     fresh: &mut [u8],
     schedule: &mut [u8],
-) -> bool
+) -> usize
     requires { ⌜ Fits m ⌝ ∗ ⌜
-        (v < m .g ^ (2 * m .k)) × (v < length (now a)) × (v < length (now b)) × (mostBytes ≤ length (now fresh))
+        (v < m .g ^ (2 * m .k)) × (count ≡ m .g ^ (2 * m .k)) × (v < length (now a)) × (v < length (now b)) × (mostBytes ≤ length (now fresh))
         × (mostBytes ≤ length (now schedule)) × (length (now levels) ≡ levelsSize)
-        ⌝ ∗ ⌜ TargetCosts m (now a) (now b) ⌝ ∗ ⌜ Judged m (found steps) ⌝ ∗ ⌜ Solves m (now first) (now second) ⌝ }
-    ensures adds { λ r. ⌜ Adds m steps v (now (schedule .entry)) (now (schedule .exit)) seen r ⌝ }
-    ensures tables { λ _. ⌜ Solves m (now (first .exit)) (now (second .exit)) ⌝ }
+        ⌝ ∗ ⌜ TargetCosts m (now a) (now b) ⌝ ∗ ⌜ Judged m (found steps) ⌝ ∗ ⌜ Solves m last (now first) (now second) ⌝ }
+    ensures adds { λ r. ⌜ Adds m steps v (now (schedule .entry)) (now (schedule .exit)) (ltb last count) (ltb r count) ⌝ }
+    ensures tables { λ r. ⌜ Solves m r (now (first .exit)) (now (second .exit)) ⌝ }
     ensures size { λ _. ⌜ length (now (levels .exit)) ≡ levelsSize ⌝ }
 {
     if v % m.g as usize != m.target.0 as usize {
-        return seen;
+        return last;
     }
     let x = a[v];
     let y = b[v];
     if sum(x, y) != steps {
-        return seen;
+        return last;
     }
-    if seen {
-        lower(m, steps, v, x, y, first, second, levels, fresh, schedule);
-        return true;
+    if last < count {
+        lower(
+            m,
+            steps,
+            v,
+            x,
+            y,
+            last,
+            first,
+            second,
+            levels,
+            fresh,
+            schedule,
+        );
+        return v;
     }
-    witness::write(m, v, x, y, first, second, levels, schedule);
-    true
+    witness::write(m, v, x, y, last, first, second, levels, schedule);
+    v
 }
 
 // The first schedule along line v is written to `fresh`, and kept where it comes before the one in the store.
@@ -125,21 +141,22 @@ fn lower(
     v: usize,
     x: u16,
     y: u16,
+    last: usize,
     first: &mut [u16],
     second: &mut [u16],
     levels: &mut [u16; LEVELS],
     fresh: &mut [u8],
     schedule: &mut [u8],
 )
-    requires { ⌜ Fits m ⌝ ∗ ⌜ Chosen m v x y ⌝ ∗ ⌜ Solves m (now first) (now second) ⌝ ∗ ⌜
+    requires { ⌜ Fits m ⌝ ∗ ⌜ Chosen m v x y ⌝ ∗ ⌜ Solves m last (now first) (now second) ⌝ ∗ ⌜
         (x + y ≡ steps) × (v % m .g ≡ m .target .0) × (mostBytes ≤ length (now fresh)) × (mostBytes ≤ length (now schedule))
         × (length (now levels) ≡ levelsSize)
         ⌝ }
     ensures adds { λ _. ⌜ Adds m steps v (now (schedule .entry)) (now (schedule .exit)) true true ⌝ }
-    ensures tables { λ _. ⌜ Solves m (now (first .exit)) (now (second .exit)) ⌝ }
+    ensures tables { λ _. ⌜ Solves m v (now (first .exit)) (now (second .exit)) ⌝ }
     ensures size { λ _. ⌜ length (now (levels .exit)) ≡ levelsSize ⌝ }
 {
-    witness::write(m, v, x, y, first, second, levels, fresh);
+    witness::write(m, v, x, y, last, first, second, levels, fresh);
     if comes_before(fresh, schedule, steps) {
         copy(fresh, schedule, steps);
     }

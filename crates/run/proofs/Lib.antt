@@ -3,10 +3,10 @@ pub mod Filled
 pub mod Filling
 pub mod Goings
 pub mod Greedy
-pub mod Heads
 pub mod Moves
 pub mod Overs
 pub mod Pairing
+pub mod PlanHeads
 pub mod Plans
 pub mod Raising
 pub mod Stored

@@ -20,6 +20,7 @@ use model::ThreadId;
 use model::Top;
 use summary::UNREACHED;
 use summary::stays_of;
+ghost use mathlib.Core.Bool.{true};
 ghost use mathlib.Core.List.{[], _∷_};
 ghost use mathlib.Core.Path.{_≡_};
 ghost use Prim.Native.Nat.{suc, _*_, _^_, _≤_, _<_};
@@ -30,7 +31,7 @@ ghost use Rattle.model.specs.Lines.{digits};
 ghost use Rattle.model.specs.Schedules.{mostSteps, Stored};
 ghost use Rattle.costs.specs.Cost.{RunAlong};
 ghost use Rattle.summary.specs.Cells.{controlsOf, size};
-ghost use Rattle.run.specs.Base.{Base};
+ghost use Rattle.run.specs.Base.{Base, SolvedFor};
 ghost use Rattle.run.specs.Chosen.{ChosenFor, Prepared, Starts};
 ghost use Rattle.run.specs.Exits.{Togo, Setting, Runs};
 ghost use Rattle.run.specs.Levels.{levelsSize, from, HeadFits};
@@ -43,6 +44,7 @@ pub struct Start {
 }
 
 // Writes the first of a thread's shortest runs along the full line whose value is v, with n turn ends, to a top: they have `count` steps.
+// The table may be known to be solved for the line's first turn end.
 pub fn steps(
     table: &mut [u16],
     th: Thread,
@@ -53,19 +55,22 @@ pub fn steps(
     start: usize,
     v: usize,
     count: usize,
+    known: bool,
     levels: &mut [u16; LEVELS],
     out: &mut [u8; MOST_BYTES],
 )
     requires { ⌜ ChosenFor th top g n id start v count ⌝ ∗ ⌜ length (now levels) ≡ levelsSize ⌝
-        ∗ ⌜ (size (controlsOf th g) ≤ length (now table)) × Base th top g n (now table) ⌝ }
+        ∗ ⌜ (size (controlsOf th g) ≤ length (now table)) × Base th top g n (now table) ⌝
+        ∗ ⌜ (known ≡ true → SolvedFor th top id g n v (now table)) ⌝ }
     ensures base { λ _. ⌜ Base th top g n (now (table .exit)) ⌝ }
+    ensures solved { λ _. ⌜ SolvedFor th top id g n v (now (table .exit)) ⌝ }
     ensures size { λ _. ⌜ length (now (levels .exit)) ≡ levelsSize ⌝ }
     ensures steps { λ _. ⌜
         Stored (First (RunAlong th top id n start (digits g (2 * suc n) v)) count) count 0 (now (out .entry)) (now (out .exit))
         ⌝ }
 {
     let mut plan = [0u8; PLAN_SIZE];
-    prepare(table, &mut plan, th, top, g, n, id, v);
+    prepare(table, &mut plan, th, top, g, n, id, v, known);
     let from = start_of(top, g, n, id, start, v, th.first.0 as usize);
     let mut exits = [UNREACHED; EXITS];
     fill(&mut exits, table, &plan, n, from.dest);
@@ -83,16 +88,19 @@ fn prepare(
     n: usize,
     id: ThreadId,
     v: usize,
+    known: bool,
 )
     requires { ⌜ (size (controlsOf th g) ≤ length (now table)) × (length (now plan) ≡ planSize) × Base th top g n (now table) ⌝
-        ∗ ⌜ (1 ≤ g) × (g ≤ 4) × (n ≤ 2) × (v < g ^ (2 * suc n)) × TopFits top × ThreadFits g th ⌝ }
+        ∗ ⌜ (1 ≤ g) × (g ≤ 4) × (n ≤ 2) × (v < g ^ (2 * suc n)) × TopFits top × ThreadFits g th ⌝
+        ∗ ⌜ (known ≡ true → SolvedFor th top id g n v (now table)) ⌝ }
     ensures base { λ _. ⌜ Base th top g n (now (table .exit)) ⌝ }
+    ensures solved { λ _. ⌜ SolvedFor th top id g n v (now (table .exit)) ⌝ }
     ensures prepared { λ _. ⌜ Prepared th top id g n (digits g (2 * suc n) v) (now (table .exit)) (now (plan .exit)) ⌝ }
 {
     make(plan, th, g, n, id, v);
     let o = wide(plan[2]);
     let i = wide(plan[3]);
-    for_line(table, g, n, o, i, top, th);
+    for_line(table, g, n, o, i, known, top, th);
 }
 
 // From the state in which the thread's first turn starts, to the end of its last turn with something on its stack, be it the

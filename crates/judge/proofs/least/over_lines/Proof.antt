@@ -1,9 +1,11 @@
 -- `over_lines` meets its contract. The invariant: the store holds the least schedule over the lines below v.
 use mathlib.Core.Path.{_≡_}
 use Prim.Native.Nat.{ℕ, _-_, _*_, _^_, _≤_}
-use native.Mathlib.Nat.{le-antisymm}
+use native.Mathlib.Nat.{le-antisymm, le-refl}
 use native.Mathlib.Omega.{arith}
 use borrow.Author.Needs.{needs}
+use borrow.Author.Tests.{le-ltb}
+use lib.Dec.{ltb}
 use lib.ListN.{length, length-replicate}
 use Rattle.model.specs.Schedules.{mostBytes}
 use Rattle.costs.specs.Lanes.{fullLines}
@@ -16,13 +18,13 @@ use Rattle.judge.proofs.least.over_lines.Statement.{statement}
 use Rattle.judge.proofs.least.over_lines.Tie as tie
 
 abbrev Inv-loop : tie.InvT-loop
-Inv-loop m steps a b first₀ second₀ levels₀ schedule₀ count fresh₀ seen₀ v₀ first second levels schedule fresh seen v =
-    (count ≡ m .g ^ (2 * m .k)) × (count ≤ fullLines) × (v ≤ count) × Lowest m steps v schedule₀ schedule seen × Solves m first second
+Inv-loop m steps a b first₀ second₀ levels₀ schedule₀ count fresh₀ last₀ v₀ first second levels schedule fresh last v =
+    (count ≡ m .g ^ (2 * m .k)) × (count ≤ fullLines) × (v ≤ count) × Lowest m steps v schedule₀ schedule (ltb last count) × Solves m last first second
     × (length levels ≡ levelsSize) × (length schedule ≡ length schedule₀) × (length fresh ≡ mostBytes)
     × (length first ≡ length first₀) × (length second ≡ length second₀)
 
 abbrev μ-loop : tie.MeasureT-loop
-μ-loop m steps a b first₀ second₀ levels₀ schedule₀ count fresh₀ seen₀ v₀ first second levels schedule fresh seen v =
+μ-loop m steps a b first₀ second₀ levels₀ schedule₀ count fresh₀ last₀ v₀ first second levels schedule fresh last v =
     count - v
 
 cast-power : tie.Need-cast-power Inv-loop μ-loop
@@ -46,8 +48,8 @@ loop-holds c =
       search needs,
       search needs,
       search needs,
-      lowest-none (c8 .args .m) (c8 .args .steps) (c8 .args .schedule .now),
-      p .1 .1 .1 .1,
+      rw (le-ltb _ _ (le-refl _)) (lowest-none (c8 .args .m) (c8 .args .steps) (c8 .args .schedule .now)),
+      rw (c .power .ensures .0) (p .1 .1 .1 .1),
       p .1 .0 .3,
       search needs,
       length-replicate {A = ℕ} mostBytes 0,
@@ -68,7 +70,7 @@ with-line-requires c κs =
     let low = c5 .loop-test .taken in (
       p .0,
       (
-        (omega (arith, low, i .0), omega (arith, low, i .1, p .1 .0 .0), omega (arith, low, i .1, p .1 .0 .1), omega (arith, i .7), omega (arith, i .6, p .1 .0 .2), i .5),
+        (omega (arith, low, i .0), i .0, omega (arith, low, i .1, p .1 .0 .0), omega (arith, low, i .1, p .1 .0 .1), omega (arith, i .7), omega (arith, i .6, p .1 .0 .2), i .5),
         (p .1 .1 .0, (p .1 .1 .1 .0, i .4)),
       ),
     )

@@ -3,8 +3,9 @@ use mathlib.Core.Path.{sym, _∙_}
 use Prim.Native.Nat.{_*_}
 use native.Mathlib.Omega.{arith}
 use borrow.Author.Needs.{needs}
+use borrow.Author.Tests.{lt-ltb, le-ltb}
 use Rattle.costs.proofs.Digits.{power-small}
-use Rattle.judge.proofs.Adding.{line-chosen, adds-nothing, adds-elsewhere, adds-first}
+use Rattle.judge.proofs.Adding.{below-all, line-chosen, adds-nothing, adds-elsewhere, adds-first}
 use Rattle.judge.proofs.least.with_line.Statement.{statement}
 use Rattle.judge.proofs.least.with_line.Tie as tie
 
@@ -60,7 +61,7 @@ lower-requires c κs =
     let c19 = c10 .before .before .before .before .before .before .before .before .before in
     let p = c19 .pre in
     let e = sym (c7 .sum .ensures) ∙ c6 .if2 .left in
-    (p .0, (line-chosen (p .0) (p .1 .1 .0) (p .1 .1 .1 .0) (p .1 .0 .0) e, (p .1 .1 .1 .1, (e, c10 .if1 .left, p .1 .0 .3, p .1 .0 .4, p .1 .0 .5))))
+    (p .0, (line-chosen (p .0) (p .1 .1 .0) (p .1 .1 .1 .0) (p .1 .0 .0) e, (p .1 .1 .1 .1, (e, c10 .if1 .left, p .1 .0 .4, p .1 .0 .5, p .1 .0 .6))))
 
 same-length : tie.Need-same-length
 same-length c = search needs
@@ -78,8 +79,10 @@ returns-3 : tie.Need-returns-3
 returns-3 c =
     let c8 = c .before .before .before .before .before .before .before .before in
     let c14 = c8 .before .before .before .before .before .before in
+    let c28 = c14 .before .before .before .before .before .before .before .before .before .before .before .before .before .before in
+    let p = c28 .pre in
     let w = c8 .lower .ensures in
-    (rw (c14 .if3 .taken) (w .0), (w .1 .0, w .1 .1))
+    (rw (lt-ltb _ _ (c14 .if3 .taken), lt-ltb _ _ (below-all (p .1 .0 .1) (p .1 .0 .0))) (w .0), (w .1 .0, w .1 .1))
 
 write-requires : tie.Need-write-requires
 write-requires c κs =
@@ -88,7 +91,7 @@ write-requires c κs =
     let c18 = c6 .before .before .before .before .before .before .before .before .before .before .before .before in
     let p = c18 .pre in
     let e = sym (c6 .sum .ensures) ∙ c5 .if2 .left in
-    (p .0, (line-chosen (p .0) (p .1 .1 .0) (p .1 .1 .1 .0) (p .1 .0 .0) e, (p .1 .1 .1 .1, (p .1 .0 .5, p .1 .0 .4))))
+    (p .0, (line-chosen (p .0) (p .1 .1 .0) (p .1 .1 .1 .0) (p .1 .0 .0) e, (p .1 .1 .1 .1, (p .1 .0 .6, p .1 .0 .5))))
 
 same-length-5 : tie.Need-same-length-5
 same-length-5 c = search needs
@@ -106,9 +109,11 @@ returns-4 c =
     let c12 = c11 .before in
     let c13 = c12 .before in
     let c16 = c13 .before .before .before in
+    let c25 = c16 .before .before .before .before .before .before .before .before .before in
+    let p = c25 .pre in
     let e = sym (c13 .sum .ensures) ∙ c12 .if2 .left in
     let w = c6 .write .ensures in
-    (adds-first (c16 .if1 .left) e (w .0) (c11 .if3 .left), (w .1 .0, w .1 .1))
+    (rw (lt-ltb _ _ (below-all (p .1 .0 .1) (p .1 .0 .0))) (adds-first (c16 .if1 .left) e (w .0) (le-ltb _ _ (c11 .if3 .left))), (w .1 .0, w .1 .1))
 
 pub with-line-spec : {M : Type 1} → statement M
 with-line-spec =

@@ -4,7 +4,7 @@ use native.Mathlib.Omega.{arith}
 use borrow.Author.Needs.{needs}
 use Rattle.model.specs.Lines.{digits}
 use Rattle.model.proofs.Positions.{digits-states}
-use Rattle.run.proofs.Heads.{four-fits, made, planned, ends-made, in-range}
+use Rattle.run.proofs.PlanHeads.{four-fits, made, planned, ends-made, in-range}
 use Rattle.run.proofs.plan.make.Statement.{statement}
 use Rattle.run.proofs.plan.make.Tie as tie
 

@@ -3,7 +3,7 @@ use Prim.Native.Nat.{suc, _*_}
 use borrow.Author.Needs.{needs}
 use lib.ListN.{length-set}
 use Rattle.model.specs.Lines.{digits}
-use Rattle.run.proofs.Heads.{head-stored}
+use Rattle.run.proofs.PlanHeads.{head-stored}
 use Rattle.run.proofs.plan.put_head.Statement.{statement}
 use Rattle.run.proofs.plan.put_head.Tie as tie
 

@@ -13,7 +13,11 @@ slice-aggregate-prepare : tie.Need-slice-aggregate-prepare
 slice-aggregate-prepare c = search needs
 
 prepare-requires : tie.Need-prepare-requires
-prepare-requires c κs = search needs
+prepare-requires c κs =
+    let p = c .before .before .before .pre in
+    let q = p .0 in
+    let t = p .1 .1 .0 in
+    ((t .0, search needs, t .1), ((q .states .0, q .states .1, q .two, q .low, q .named, q .fits), p .1 .1 .1))
 
 cast-start-of : tie.Need-cast-start-of
 cast-start-of c = search needs
@@ -30,7 +34,7 @@ fill-requires c κs =
     let q = c12 .pre .0 in
     let size = length-digits (a .g) (2 * suc (a .n)) (a .v) in
     let line = digits-states (a .g) (2 * suc (a .n)) (a .v) (q .low) in
-    let K = c8 .prepare .ensures .1 in
+    let K = c8 .prepare .ensures .1 .1 in
     let S = c3 .start-of .ensures in
     (K .range, ((K .size, q .two, dest-small K (q .two) (q .fits) (q .named) size line S), fresh-made))
 
@@ -43,7 +47,7 @@ from-head-requires c κs =
     let q = c18 .pre .0 in
     let size = length-digits (a .g) (2 * suc (a .n)) (a .v) in
     let line = digits-states (a .g) (2 * suc (a .n)) (a .v) (q .low) in
-    let K = c14 .prepare .ensures .1 in
+    let K = c14 .prepare .ensures .1 .1 in
     let S = c9 .start-of .ensures in
     (K .range, (first-fits K (q .two) (q .fits) (q .named) size line S, (ap (λ (h : Head). h .under) (S .head), q .most, c18 .pre .1 .0)))
 
@@ -60,15 +64,18 @@ returns c =
     let q = c19 .pre .0 in
     let size = length-digits (a .g) (2 * suc (a .n)) (a .v) in
     let line = digits-states (a .g) (2 * suc (a .n)) (a .v) (q .low) in
-    let K = c15 .prepare .ensures .1 in
+    let K = c15 .prepare .ensures .1 .1 in
     let S = c10 .start-of .ensures in
     let F = c6 .fill .ensures in (
       c15 .prepare .ensures .0,
       (
-        c .from-head .ensures .1,
-        first-written K (q .two) (q .fits) (q .named) size line S F
-            (c .from-head .ensures .0 (setting K (q .two) (q .fits) (q .named) size line S F) (ap (λ (h : Head). h .ends) (S .head))
-            (first-togo K (q .two) (q .fits) (q .named) size line S F (q .most) (q .least))),
+        c15 .prepare .ensures .1 .0,
+        (
+          c .from-head .ensures .1,
+          first-written K (q .two) (q .fits) (q .named) size line S F
+              (c .from-head .ensures .0 (setting K (q .two) (q .fits) (q .named) size line S F) (ap (λ (h : Head). h .ends) (S .head))
+              (first-togo K (q .two) (q .fits) (q .named) size line S F (q .most) (q .least))),
+        ),
       ),
     )
 
