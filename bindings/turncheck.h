@@ -20,8 +20,8 @@
  *
  * Each slice is a pointer and a length. The pointer is never NULL, even where the length is 0. While a call runs, nothing else
  * writes to its slices, and no store overlaps another slice of the same call. A call keeps no pointer, allocates nothing and has
- * no state of its own, so calls may run side by side. The deepest models that we know take less than 600 KB of stack: give a call
- * 2 MB, or 2.5 MB where rules are held.
+ * no state of its own, so calls may run side by side. A call takes up to 800 KB of stack, by measurement, and no more for
+ * deeper models: give it 1 MB or more.
  *
  * Link target/staticlib/libffi.a, which `rt staticlib ffi` writes. */
 #ifndef TURNCHECK_H

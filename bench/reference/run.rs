@@ -19,10 +19,11 @@ struct Level {
     togo: [u16; PLACES],
 }
 
-// Its table holds what all lines share, and the rest for one line at a time.
+// Its table holds what all lines share, and the rest for the lines with one first turn end at a time.
 pub struct Runs<'a> {
     part: &'a Part<'a>,
     table: Table,
+    solved: Option<usize>,
     exits: Vec<Exits>,
     levels: Vec<Level>,
 }
@@ -42,14 +43,15 @@ impl<'a> Runs<'a> {
         if part.n >= 1 {
             table.close_first(part.thread);
         }
-        Runs { part, table, exits: vec![[[NONE; PLACES + 1]; 17]; PLACES], levels: Vec::new() }
+        Runs { part, table, solved: None, exits: vec![[[NONE; PLACES + 1]; 17]; PLACES], levels: Vec::new() }
     }
 
     // The least of the shortest runs along the line of this value: they have so many steps.
     pub fn least(&mut self, v: usize, count: u16) -> Vec<[u8; 2]> {
         let ends = self.part.ends(v);
-        if self.part.n >= 2 {
+        if self.part.n >= 2 && self.solved != Some(ends.lanes[0]) {
             self.table.close_second(ends.lanes[0] / 4, ends.lanes[0] % 4, self.part.thread);
+            self.solved = Some(ends.lanes[0]);
         }
         let stays = if self.part.top.is_some() { NAMED } else { STAYS };
         self.fill(ends.lanes, stays + ends.to);
