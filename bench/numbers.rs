@@ -11,7 +11,7 @@ pub const REACHED: u64 = 37;
 pub const PAGED: u64 = 40;
 
 // The bytes of the longest record.
-pub const RECORD: usize = 668;
+pub const RECORD: usize = 670;
 
 // The bytes of the longest page: 4,095 steps and the foot, 73 bytes each.
 pub const PAGE: usize = 299_008;

@@ -29,8 +29,9 @@ pub struct Rule {
     pub right: Right,
 }
 
-// `top` is the symbol that must top its stack at the target, where one is named.
+// `symbols` is how many symbols it has. `top` is the one that must top its stack at the target, where one is named.
 pub struct Thread {
+    pub symbols: usize,
     pub first: usize,
     pub top: Option<usize>,
     pub rules: Vec<Rule>,

@@ -15,6 +15,9 @@
  * bit 0, marks rule r. No turn ends right after a held step, and so no run does: the target counts only where a turn may end. A turn
  * without steps may always end.
  *
+ * A record may also write out how many symbols A has, or B, by one byte for each thread, 1 to 15; a thread without that byte has 16. They
+ * are numbered from 0: a thread's first symbol, a named top and each symbol of its rules, before and new, are below its count.
+ *
  * The depth of A in a schedule is the greatest number of symbols that A's stack held at any point of its run, the starting symbol counted;
  * and so for B. A stack that never grew has depth 1, and 4,095 pushes give 4,096.
  *
@@ -35,7 +38,7 @@ extern "C" {
 #endif
 
 /* Sizes that are enough for every model. */
-#define TURNCHECK_RECORD_BYTES 668    /* the longest record */
+#define TURNCHECK_RECORD_BYTES 670    /* the longest record */
 #define TURNCHECK_LINES_BYTES 683     /* the largest line table: 5,460 bits, of a model with G = 4 and K = 3 */
 #define TURNCHECK_SCHEDULE_BYTES 8190 /* the longest schedule: 4,095 steps; what turncheck_judge asks for */
 #define TURNCHECK_PAGE_BYTES 299008   /* the longest page, that of 4,095 steps: 73 bytes for each step and 73 for the foot line */
@@ -55,9 +58,10 @@ enum turncheck_refusal {
     TURNCHECK_REFUSED_MARK_RANGE = 11,     /* a rule number that the thread's list lacks is marked as held */
     TURNCHECK_REFUSED_STEP_HELD = 12,      /* the schedule leaves a turn after a held step, or ends after one */
     TURNCHECK_REFUSED_RULE_ORDER = 13,     /* a rule is not above the one before it in its thread's list */
-    TURNCHECK_REFUSED_MERGE_HEADS = 14,    /* two models differ in G, K, start, target, a top or a first symbol */
+    TURNCHECK_REFUSED_MERGE_HEADS = 14,    /* two models differ in G, K, start, target, a top, a symbol count or a first symbol */
     TURNCHECK_REFUSED_MERGE_HELD = 15,     /* a rule is held in one model and free in the other */
-    TURNCHECK_REFUSED_MERGE_COUNT = 16     /* a thread has more than 64 rules in both models together */
+    TURNCHECK_REFUSED_MERGE_COUNT = 16,    /* a thread has more than 64 rules in both models together */
+    TURNCHECK_REFUSED_SYMBOL_RANGE = 17    /* a first symbol, a top or a rule's symbol is not below its thread's symbol count */
 };
 
 /* What a call answers where it does not refuse. */
@@ -85,41 +89,41 @@ enum turncheck_kind {
 #define TURNCHECK_IS_REFUSED(number) (TURNCHECK_KIND(number) >= 1 && TURNCHECK_KIND(number) <= 31)
 
 /* What a number of the right kind carries. */
-#define TURNCHECK_LENGTH(number) TURNCHECK_FIELD1(number)  /* TURNCHECK_WRITTEN, TURNCHECK_TAKEN: a record's length, at most 668 */
+#define TURNCHECK_LENGTH(number) TURNCHECK_FIELD1(number)  /* TURNCHECK_WRITTEN, TURNCHECK_TAKEN: a record's length, at most 670 */
 #define TURNCHECK_STEPS(number) TURNCHECK_FIELD1(number)   /* TURNCHECK_FOUND: steps, at most 4,095 */
 #define TURNCHECK_STATE(number) TURNCHECK_FIELD1(number)   /* TURNCHECK_STOPPED, TURNCHECK_REACHED: a shared state, at most 3 */
 #define TURNCHECK_DEPTH_A(number) TURNCHECK_FIELD2(number) /* TURNCHECK_FOUND, _STOPPED, _REACHED: the depth of A, 1 to 4,096 */
 #define TURNCHECK_DEPTH_B(number) TURNCHECK_FIELD3(number) /* the same kinds: the depth of B, 1 to 4,096 */
 #define TURNCHECK_PAGE_LENGTH(number) ((size_t)((number) >> 16 & 0xFFFFFFFF)) /* TURNCHECK_PAGED: at most 299,008 */
 
-/* Reads a record: TURNCHECK_DONE, or refusal 1 to 6, 11 or 13. */
+/* Reads a record: TURNCHECK_DONE, or refusal 1 to 6, 11, 13 or 17. */
 uint64_t turncheck_read(const uint8_t *record, size_t record_size);
 
 /* Reads the first record of a tray, which is records one after another: TURNCHECK_TAKEN with the record's length, TURNCHECK_NONE for
- * an empty tray, or refusal 1 to 5, 11 or 13. So many bytes are a record by themselves, which every other call takes; go on with the tray
- * behind them, which are no fault of this record. A refused record has no length, so nothing behind it can be read. */
+ * an empty tray, or refusal 1 to 5, 11, 13 or 17. So many bytes are a record by themselves, which every other call takes; go on with the
+ * tray behind them, which are no fault of this record. A refused record has no length, so nothing behind it can be read. */
 uint64_t turncheck_first(const uint8_t *tray, size_t tray_size);
 
 /* Reads a record and writes its model again, to the front of the store; the bytes beyond keep their value. The bytes are those of
- * the record. Answers TURNCHECK_WRITTEN with how many they are, or refusal 1 to 7, 11 or 13. */
+ * the record. Answers TURNCHECK_WRITTEN with how many they are, or refusal 1 to 7, 11, 13 or 17. */
 uint64_t turncheck_write(const uint8_t *record, size_t record_size, uint8_t *store, size_t store_size);
 
 /* Reads two records and makes their models one: the head that both have, and in each thread the rules of either, each once, in order and
  * held as it was. Writes its record to the front of the store; the bytes beyond keep their value. If either model is Found, so is this one,
  * in no more steps; if either is Long, this one is not Clear. Answers TURNCHECK_WRITTEN with how many bytes the record has, or a refusal:
- * 1 to 6, 11 or 13 of the first record, then of the second; then 14; 15 in A or in B; 16 in A or in B; and last 7, for a store with fewer
- * bytes. */
+ * 1 to 6, 11, 13 or 17 of the first record, then of the second; then 14; 15 in A or in B; 16 in A or in B; and last 7, for a store with
+ * fewer bytes. */
 uint64_t turncheck_merge(const uint8_t *first, size_t first_size, const uint8_t *second, size_t second_size, uint8_t *store,
                          size_t store_size);
 
 /* Fills the line table of a record's model: bit p, in byte p div 8, lowest bit first, stands exactly if some run ends its turns
  * along the line at place p. Spare bits of the table's last byte are 0; the bytes beyond keep their value.
- * Answers TURNCHECK_DONE, or refusal 1 to 7, 11 or 13. */
+ * Answers TURNCHECK_DONE, or refusal 1 to 7, 11, 13 or 17. */
 uint64_t turncheck_lines(const uint8_t *record, size_t record_size, uint8_t *lines, size_t lines_size);
 
 /* Judges a record's model: TURNCHECK_CLEAR, TURNCHECK_LONG, or TURNCHECK_FOUND with the number of steps and the depths of A and of B; or
- * refusal 1 to 7, 11 or 13. Each verdict fills the line table as turncheck_lines does. Found writes the least of the shortest schedules to
- * the front of the schedule store: the first, compared step by step, turn number before rule number. A step has two bytes: the turn, and
+ * refusal 1 to 7, 11, 13 or 17. Each verdict fills the line table as turncheck_lines does. Found writes the least of the shortest schedules
+ * to the front of the schedule store: the first, compared step by step, turn number before rule number. A step has two bytes: the turn, and
  * the rule's number in its thread's list, from 0. All other bytes keep their value. The depths are those of this schedule, as
  * turncheck_replay gives them; another one that is as short may have others. The schedule store has at least TURNCHECK_SCHEDULE_BYTES,
  * whatever the verdict. */
@@ -127,13 +131,13 @@ uint64_t turncheck_judge(const uint8_t *record, size_t record_size, uint8_t *lin
                          size_t schedule_size);
 
 /* Walks a schedule of a record's model from its start: TURNCHECK_STOPPED or TURNCHECK_REACHED with the last shared state and the
- * depths of A and of B; or refusal 1 to 6 or 8 to 13. */
+ * depths of A and of B; or refusal 1 to 6, 8 to 13 or 17. */
 uint64_t turncheck_replay(const uint8_t *record, size_t record_size, const uint8_t *schedule, size_t schedule_size);
 
 /* Walks a schedule of a record's model as turncheck_replay does, and writes its page to the front of the store, in ASCII: a line of 72
  * characters and a line feed for each step, with the shared state and both stacks after it, and a foot line. The bytes beyond keep their
- * value. Answers TURNCHECK_PAGED with how many bytes the page has, 73 for each step and 73 more; or refusal 1 to 6 or 8 to 13, or then 7
- * for a store with fewer. */
+ * value. Answers TURNCHECK_PAGED with how many bytes the page has, 73 for each step and 73 more; or refusal 1 to 6, 8 to 13 or 17, or then
+ * 7 for a store with fewer. */
 uint64_t turncheck_page(const uint8_t *record, size_t record_size, const uint8_t *schedule, size_t schedule_size, uint8_t *store,
                         size_t store_size);
 

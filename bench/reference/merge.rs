@@ -31,9 +31,9 @@ fn joined(mut m: Model, n: &Model) -> Result<Model, u64> {
     }
 }
 
-fn head(m: &Model) -> [[Option<usize>; 2]; 4] {
-    let ends = |t: &Thread| [Some(t.first), t.top];
-    [[Some(m.g), Some(m.k)], [Some(m.start), Some(m.target)], ends(&m.a), ends(&m.b)]
+fn head(m: &Model) -> ([usize; 4], [[Option<usize>; 3]; 2]) {
+    let fields = |t: &Thread| [Some(t.symbols), Some(t.first), t.top];
+    ([m.g, m.k, m.start, m.target], [fields(&m.a), fields(&m.b)])
 }
 
 // Two rules are the same, and one of them is held.

@@ -20,12 +20,14 @@ pub fn read(bytes: &[u8]) -> Result<Model, u64> {
     if g <= target % 128 {
         return Err(3);
     }
-    // a second map, of the tops and of the marks of held rules
-    let second = r.field(target >= 128, 3, 0, 16, 0)?;
+    // a second map, of the tops, of the marks of held rules and of the symbol counts
+    let second = r.field(target >= 128, 3, 0, 64, 0)?;
     let top_a = r.top(second & 1 != 0)?;
     let top_b = r.top(second & 2 != 0)?;
     let marks_a = r.marks(second & 4 != 0)?;
     let marks_b = r.marks(second & 8 != 0)?;
+    let symbols_a = r.field(second & 16 != 0, 3, 1, 17, 16)?;
+    let symbols_b = r.field(second & 32 != 0, 3, 1, 17, 16)?;
     let a = r.field(bit(4), 3, 0, 16, 0)?;
     let b = r.field(bit(5), 3, 0, 16, 0)?;
     let rules_a = r.rules(bit(6), g, marks_a)?;
@@ -33,22 +35,30 @@ pub fn read(bytes: &[u8]) -> Result<Model, u64> {
     if beyond(marks_a, &rules_a) || beyond(marks_b, &rules_b) {
         return Err(11);
     }
+    let a = Thread { symbols: symbols_a as usize, first: a as usize, top: top_a, rules: rules_a };
+    let b = Thread { symbols: symbols_b as usize, first: b as usize, top: top_b, rules: rules_b };
+    if uncounted(&a) || uncounted(&b) {
+        return Err(17);
+    }
     if r.at < bytes.len() {
         return Err(6);
     }
-    Ok(Model {
-        g: g as usize,
-        k: k as usize,
-        start: start as usize,
-        target: (target % 128) as usize,
-        a: Thread { first: a as usize, top: top_a, rules: rules_a },
-        b: Thread { first: b as usize, top: top_b, rules: rules_b },
-    })
+    Ok(Model { g: g as usize, k: k as usize, start: start as usize, target: (target % 128) as usize, a, b })
 }
 
 // Whether a mark stands for a rule number that the list lacks.
 fn beyond(marks: u64, rules: &[Rule]) -> bool {
     marks.checked_shr(rules.len() as u32).is_some_and(|rest| rest != 0)
+}
+
+// Whether a symbol of a thread is not below its symbol count: the first, the top, or one of a rule.
+fn uncounted(t: &Thread) -> bool {
+    let highest = t.rules.iter().map(|rule| match rule.right {
+        Right::Remove => rule.symbol,
+        Right::Swap(a) => rule.symbol.max(a),
+        Right::Push(a, b) => rule.symbol.max(a).max(b),
+    });
+    highest.chain(t.top).chain([t.first]).any(|symbol| t.symbols <= symbol)
 }
 
 // A rule's place in the order of rules: its before state and symbol, its after state, how many new symbols it has, and these.

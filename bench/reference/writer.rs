@@ -25,10 +25,17 @@ fn unless(value: usize, absent: usize) -> Vec<u8> {
     Some(value as u8).filter(|_| value != absent).into_iter().collect()
 }
 
-// The target byte, and the second map if it has fields: tops and marks.
+// The target byte, and the second map if it has fields: tops, marks and symbol counts.
 fn aim(m: &Model) -> Vec<u8> {
     let top = |top: Option<usize>| top.map(|symbol| symbol as u8).into_iter().collect();
-    let second = mapped([top(m.a.top), top(m.b.top), marks(&m.a.rules), marks(&m.b.rules)]);
+    let second = mapped([
+        top(m.a.top),
+        top(m.b.top),
+        marks(&m.a.rules),
+        marks(&m.b.rules),
+        unless(m.a.symbols, 16),
+        unless(m.b.symbols, 16),
+    ]);
     match second[0] {
         0 => vec![m.target as u8],
         _ => [vec![m.target as u8 + 128], second].concat(),

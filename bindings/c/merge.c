@@ -1,5 +1,5 @@
 /* Makes two models one: `merge FIRST SECOND > WHOLE` reads the records in two files and writes that of their model to standard output.
- * Where that is refused, it writes nothing there, says `refused N` on standard error, and its exit status is N, 1 to 16. Where it
+ * Where that is refused, it writes nothing there, says `refused N` on standard error, and its exit status is N, 1 to 17. Where it
  * cannot do its work, as where a file cannot be read or the output cannot be written, it says why, and the status is above 63. */
 #include "../turncheck.h"
 

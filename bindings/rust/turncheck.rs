@@ -8,10 +8,12 @@
 //! A record may also mark rules of A and of B as held, by eight bytes for each thread: bit r mod 8 of byte r div 8, the lowest bit being
 //! bit 0, marks rule r. No turn ends right after a held step, and so no run does: the target counts only where a turn may end. A turn
 //! without steps may always end.
+//! A record may also write out how many symbols A has, or B, by one byte for each thread, 1 to 15; a thread without that byte has 16. They
+//! are numbered from 0: a thread's first symbol, a named top and each symbol of its rules, before and new, are below its count.
 //! A call takes up to 800 KB of stack, by measurement, and no more for deeper models. A Rust thread has 2 MB by default.
 
 /// The longest record.
-pub const RECORD_BYTES: usize = 668;
+pub const RECORD_BYTES: usize = 670;
 /// The largest line table: 5,460 bits, of a model with G = 4 and K = 3.
 pub const LINES_BYTES: usize = 683;
 /// The longest schedule, of 4,095 steps: what `judge` asks for, whatever the verdict.
@@ -48,12 +50,14 @@ pub enum Refusal {
     StepHeld = 12,
     /// A rule is not above the one before it in its thread's list.
     RuleOrder = 13,
-    /// Two models differ in G, K, start, target, a top or a first symbol.
+    /// Two models differ in G, K, start, target, a top, a symbol count or a first symbol.
     MergeHeads = 14,
     /// A rule is held in one model and free in the other.
     MergeHeld = 15,
     /// A thread has more than 64 rules in both models together.
     MergeCount = 16,
+    /// A first symbol, a top or a rule's symbol is not below its thread's symbol count.
+    SymbolRange = 17,
 }
 
 /// A verdict on a model.
@@ -166,6 +170,7 @@ fn refusal(number: u64) -> Refusal {
         14 => Refusal::MergeHeads,
         15 => Refusal::MergeHeld,
         16 => Refusal::MergeCount,
+        17 => Refusal::SymbolRange,
         _ => panic!("turncheck: the library answers {number:#x}, which this wrapper does not know"),
     }
 }

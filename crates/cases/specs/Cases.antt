@@ -42,6 +42,16 @@ marks bits = bits ∷ replicate 7 0x00
 abbrev pub heldTwo : ℕ → List ℕ
 heldTwo bits = 0xC8 ∷ 0x83 ∷ 0x04 ∷ (marks bits ++ twoRules)
 
+-- A record with three symbols of A and two of B: the tops and the first symbols of both, and of each one rule that pushes, by its symbol
+-- before and its two new ones.
+abbrev pub counted : ℕ → ℕ → ℕ → ℕ → List ℕ → List ℕ → List ℕ
+counted topA topB firstA firstB ruleA ruleB =
+    0xF8 ∷ 0x80 ∷ 0x33 ∷ topA ∷ topB ∷ 0x03 ∷ 0x02 ∷ firstA ∷ firstB ∷ 0x01 ∷ 0x06 ∷ (ruleA ++ (0x01 ∷ 0x06 ∷ ruleB))
+
+-- Three symbols of a rule.
+abbrev pub rule : ℕ → ℕ → ℕ → List ℕ
+rule before first second = before ∷ first ∷ second ∷ []
+
 -- The table of the proved cases.
 unfoldable pub cases : List Case
 cases =
@@ -87,7 +97,7 @@ cases =
     case (0x08 ∷ 0x00 ∷ 0x00 ∷ []) (Refused 6) ∷
     -- a second map that is missing, has an unknown bit or is 0; a top that is missing or no symbol
     case (0x08 ∷ 0x80 ∷ []) (Refused 1) ∷
-    case (0x08 ∷ 0x80 ∷ 0x10 ∷ []) (Refused 3) ∷
+    case (0x08 ∷ 0x80 ∷ 0x40 ∷ []) (Refused 3) ∷
     case (0x08 ∷ 0x80 ∷ 0x00 ∷ []) (Refused 5) ∷
     case (0x08 ∷ 0x80 ∷ 0x01 ∷ []) (Refused 1) ∷
     case (0x08 ∷ 0x80 ∷ 0x02 ∷ 0x10 ∷ []) (Refused 3) ∷
@@ -110,4 +120,25 @@ cases =
     case (0xC8 ∷ 0x00 ∷ (oneTwice ++ (0x41 ∷ []))) (Refused 13) ∷
     case (0x48 ∷ 0x80 ∷ 0x04 ∷ (marks 0x04 ++ oneTwice)) (Refused 13) ∷
     case (0x48 ∷ 0x00 ∷ (oneTwice ++ (0x00 ∷ []))) (Refused 13) ∷
+    -- a symbol count that is missing, is 0, is above 16, and says what its absence would
+    case (0x08 ∷ 0x80 ∷ 0x10 ∷ []) (Refused 1) ∷
+    case (0x08 ∷ 0x80 ∷ 0x10 ∷ 0x00 ∷ []) (Refused 3) ∷
+    case (0x08 ∷ 0x80 ∷ 0x20 ∷ 0x11 ∷ []) (Refused 3) ∷
+    case (0x08 ∷ 0x80 ∷ 0x20 ∷ 0x10 ∷ []) (Refused 5) ∷
+    -- every symbol just below its thread's count, ..
+    case (counted 2 1 2 1 (rule 2 2 2) (rule 1 1 1)) (Found 0 1 1 [] ungiven) ∷
+    -- .. and just at it in each place: the tops, the first symbols, and those of A's rule and of B's
+    case (counted 3 1 2 1 (rule 2 2 2) (rule 1 1 1)) (Refused 17) ∷
+    case (counted 2 2 2 1 (rule 2 2 2) (rule 1 1 1)) (Refused 17) ∷
+    case (counted 2 1 3 1 (rule 2 2 2) (rule 1 1 1)) (Refused 17) ∷
+    case (counted 2 1 2 2 (rule 2 2 2) (rule 1 1 1)) (Refused 17) ∷
+    case (counted 2 1 2 1 (rule 3 2 2) (rule 1 1 1)) (Refused 17) ∷
+    case (counted 2 1 2 1 (rule 2 3 2) (rule 1 1 1)) (Refused 17) ∷
+    case (counted 2 1 2 1 (rule 2 2 3) (rule 1 1 1)) (Refused 17) ∷
+    case (counted 2 1 2 1 (rule 2 2 2) (rule 2 1 1)) (Refused 17) ∷
+    case (counted 2 1 2 1 (rule 2 2 2) (rule 1 2 1)) (Refused 17) ∷
+    case (counted 2 1 2 1 (rule 2 2 2) (rule 1 1 2)) (Refused 17) ∷
+    -- a mark for a rule that is not there comes before such a symbol, and a byte too many after it
+    case (0x48 ∷ 0x80 ∷ 0x14 ∷ (marks 0x02 ++ (0x01 ∷ 0x01 ∷ 0x00 ∷ 0x01 ∷ []))) (Refused 11) ∷
+    case (0x48 ∷ 0x80 ∷ 0x10 ∷ 0x01 ∷ 0x01 ∷ 0x00 ∷ 0x01 ∷ 0x00 ∷ []) (Refused 17) ∷
     []

@@ -1,4 +1,4 @@
--- What a call answers of a valid model is in range: it is refused by 7 to 10 or by 12, a record has at most 668 bytes, a schedule at
+-- What a call answers of a valid model is in range: it is refused by 7 to 10 or by 12, a record has at most 670 bytes, a schedule at
 -- most 4,095 steps and depths of one more, a walk stays in the states below g, and a page has 73 bytes a step and 73 more.
 use mathlib.Core.Bool.{Bool, true, false, _&&_}
 use mathlib.Core.List.{List, [], _∷_}
@@ -46,7 +46,7 @@ seven m room v = rw v (go room)
     go true = omega arith
     go false = omega arith
 
--- What the call that writes answers: the refusal, or a length of at most 668.
+-- What the call that writes answers: the refusal, or a length of at most 670.
 pub write-range : (m : Model) (size : ℕ) → Valid m → ReplyFits (writeReply (writtenOf m size))
 unfolding writtenOf
 write-range m size v =

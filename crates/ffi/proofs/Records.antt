@@ -1,4 +1,4 @@
--- What the reader's answer says of the bytes: reading gave a valid model, or a refusal from 1 to 6, by 11 or by 13.
+-- What the reader's answer says of the bytes: reading gave a valid model, or a refusal from 1 to 6, by 11, 13 or 17.
 use mathlib.Core.List.{List}
 use mathlib.Core.Path.{_≡_, refl, sym}
 use Prim.Native.Nat.{ℕ}

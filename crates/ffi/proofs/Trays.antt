@@ -1,5 +1,5 @@
--- What the call for a tray's first record answers is in range, so its number says it: the refusal is one from 1 to 5, 11 or 13, and the
--- record has at most 668 bytes.
+-- What the call for a tray's first record answers is in range, so its number says it: the refusal is one from 1 to 5, 11, 13 or 17, and the
+-- record has at most 670 bytes.
 use mathlib.Core.List.{List}
 use mathlib.Core.Path.{_≡_, refl, sym, ap, subst, _∙_}
 use Prim.Native.Nat.{ℕ}

@@ -157,12 +157,27 @@ pub fn with_b(m: Model, count: usize) -> Model {
     other
 }
 
+// A model with another symbol count of A.
+pub fn with_symbols_a(m: Model, symbols: u8) -> Model {
+    let mut other = m;
+    other.a.symbols = symbols;
+    other
+}
+
+// A model with another symbol count of B.
+pub fn with_symbols_b(m: Model, symbols: u8) -> Model {
+    let mut other = m;
+    other.b.symbols = symbols;
+    other
+}
+
 // A thread whose top is asked to be this symbol.
 fn topped(t: Thread, top: u8) -> Thread {
     let first = t.first;
     let held = t.held;
     let rules = t.rules;
     Thread {
+        symbols: t.symbols,
         first,
         top: Top::Named(Symbol(top)),
         held,
@@ -195,6 +210,7 @@ fn marked(t: Thread, byte: u8) -> Thread {
     let mut held = [0u8; 8];
     held[7] = byte;
     Thread {
+        symbols: t.symbols,
         first,
         top,
         held,

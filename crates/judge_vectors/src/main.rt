@@ -139,8 +139,9 @@ fn depths() -> Tally {
 }
 
 // Stores of just the size needed, and one byte less; models that no record holds: no states at all, a thread with 65 rules, a top that is
-// no symbol, a mark on rule 63 of a thread with fewer rules, and a last rule that is below the one before it, in A, in B, and beside such a
-// mark: Two with one rule more, which is blank.
+// no symbol, a mark on rule 63 of a thread with fewer rules, a symbol count of 0 and of 17, a symbol at the count, in A's rules, as B's top
+// and beside such a mark, and a last rule that is below the one before it, in A, in B, and beside such a mark: Two with one rule more,
+// which is blank.
 fn limits() -> Tally {
     let two = vectors::TWO;
     let once = vectors::TWO_ONCE;
@@ -162,6 +163,11 @@ fn limits() -> Tally {
     t = t.counted(cases::refuses(cases::with_top_b(m, 16), 3));
     t = t.counted(cases::refuses(cases::with_a(cases::with_marks_a(m, 128), 63), 11));
     t = t.counted(cases::refuses(cases::with_marks_b(m, 128), 11));
+    t = t.counted(cases::refuses(cases::with_symbols_a(m, 0), 3));
+    t = t.counted(cases::refuses(cases::with_symbols_b(m, 17), 3));
+    t = t.counted(cases::refuses(cases::with_symbols_a(m, 15), 17));
+    t = t.counted(cases::refuses(cases::with_symbols_b(cases::with_top_b(m, 5), 5), 17));
+    t = t.counted(cases::refuses(cases::with_symbols_a(cases::with_marks_b(m, 128), 15), 11));
     let short = record::read(&two);
     let n = short.model;
     t = t.counted(cases::refuses(cases::with_a(n, 4), 13));

@@ -107,6 +107,13 @@ padded-flags l = fun-ext (padded-flag l (64 - length l))
 
 -- A thread with what was filled in is the one with the rules of the list.
 pub thread-filled : (t : Thread) (es : List Entry) (x : Filled) → Fills es x → T (x .fits)
-    → record { first = t .first; top = t .top; held = bytesFrom (flagAt (x .held)) 0 8; count = x .count; rules = x .rules }
+    → record {
+      symbols = t .symbols;
+      first = t .first;
+      top = t .top;
+      held = bytesFrom (flagAt (x .held)) 0 8;
+      count = x .count;
+      rules = x .rules;
+    }
     ≡ threadWith t es
 thread-filled t es x f ok = rw (f .held ok, f .count ok, f .rules ok, padded-flags (map (λ e. e .held) es)) refl

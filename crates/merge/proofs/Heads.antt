@@ -5,13 +5,13 @@ use borrow.Author.Tests.{eq-eqb}
 use Rattle.model.specs.declared.Model.{Model}
 use Rattle.model.specs.Valid.{Valid}
 use Rattle.model.proofs.Ranges.{valid-fits}
-use Rattle.merge.specs.Answer.{sameEnds, sameHead}
+use Rattle.merge.specs.Answer.{sameFields, sameHead}
 use Rattle.merge.specs.Joining.{Listed}
 use Rattle.merge.proofs.Ascending.{listed}
 
 -- Where the fields before them are equal, the threads decide.
 pub threads-decide : (m n : Model) → m .g ≡ n .g → m .k ≡ n .k → m .start .0 ≡ n .start .0 → m .target .0 ≡ n .target .0
-    → sameHead m n ≡ (sameEnds (m .a) (n .a) && sameEnds (m .b) (n .b))
+    → sameHead m n ≡ (sameFields (m .a) (n .a) && sameFields (m .b) (n .b))
 unfolding sameHead
 threads-decide m n g k s t =
     rw (eq-eqb (m .g) (n .g) g, eq-eqb (m .k) (n .k) k, eq-eqb (m .start .0) (n .start .0) s, eq-eqb (m .target .0) (n .target .0) t) refl

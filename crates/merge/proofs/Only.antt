@@ -34,6 +34,7 @@ part-of : {g h : ℕ} {t u x y : Thread} → ThreadMade g t u x → ThreadMade h
 part-of {x = x} c d =
     let up = thread-rises x (c .fits) in
     record {
+      symbols = sym (c .first .symbols) ∙ d .first .symbols;
       first = sym (c .first .first) ∙ d .first .first;
       top = sym (c .first .top) ∙ d .first .top;
       rules = λ r h. elim (c .rules r h) [
@@ -44,7 +45,14 @@ part-of {x = x} c d =
 
 -- .. and such threads have the same set of rules, with the same of them held.
 same-set : {x y : Thread} → ThreadPart x y → ThreadPart y x → SameSet x y
-same-set p q = record { first = p .first; top = p .top; rules = λ z. (rule p z, rule q z); held = λ z. (kept p z, kept q z) }
+same-set p q =
+    record {
+      symbols = p .symbols;
+      first = p .first;
+      top = p .top;
+      rules = λ z. (rule p z, rule q z);
+      held = λ z. (kept p z, kept q z);
+    }
   where
     rule : {x y : Thread} → ThreadPart x y → (z : Rule) → RuleOf x z → RuleOf y z
     rule p z o = let a = p .rules (o .number) (o .listed) in record { number = a .number; listed = a .listed; is = a .rule ∙ o .is }

@@ -28,15 +28,15 @@ sameTop Any (Named s) = false
 sameTop (Named s) Any = false
 sameTop (Named s) (Named t) = eqb (s .0) (t .0)
 
--- Two threads have the same first symbol and the same top.
-unfoldable pub sameEnds : Thread → Thread → Bool
-sameEnds t u = eqb (t .first .0) (u .first .0) && sameTop (t .top) (u .top)
+-- Two threads have the same head fields: symbol count, first symbol and top.
+unfoldable pub sameFields : Thread → Thread → Bool
+sameFields t u = eqb (t .symbols) (u .symbols) && eqb (t .first .0) (u .first .0) && sameTop (t .top) (u .top)
 
--- Two models have the same head: G, K, start, target, first symbols and tops.
+-- Two models have the same head: G, K, start, target, and the head fields of A and of B.
 unfoldable pub sameHead : Model → Model → Bool
 sameHead m n =
     eqb (m .g) (n .g) && eqb (m .k) (n .k) && eqb (m .start .0) (n .start .0) && eqb (m .target .0) (n .target .0) &&
-    sameEnds (m .a) (n .a) && sameEnds (m .b) (n .b)
+    sameFields (m .a) (n .a) && sameFields (m .b) (n .b)
 
 -- The first model's fault, then the second's, then 14 where their heads differ.
 unfoldable pub partsFault : Model → Model → ℕ
@@ -77,10 +77,11 @@ flagAt flags p = getD flags p false
 abbrev pub heldIn : List Entry → ℕ → Bool
 heldIn es = flagAt (map (λ e. e .held) es)
 
--- A thread with the rules of a list, held as they are there, and with the ends of another.
+-- A thread with the rules of a list, held as they are there, and with the head fields of another.
 abbrev pub threadWith : Thread → List Entry → Thread
 threadWith t es =
     record {
+      symbols = t .symbols;
       first = t .first;
       top = t .top;
       held = bytesFrom (heldIn es) 0 8;

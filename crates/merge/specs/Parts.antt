@@ -14,8 +14,9 @@ pub record StandsIn (u t : Thread) (r : ℕ) : Type 0 where
   pub rule : ruleAt u number ≡ ruleAt t r
   pub held : heldAt u number ≡ heldAt t r
 
--- A thread is a part of another: the same first symbol and top, and each of its rules stands there.
+-- A thread is a part of another: the same symbol count, first symbol and top, and each of its rules stands there.
 pub record ThreadPart (t u : Thread) : Type 0 where
+  pub symbols : t .symbols ≡ u .symbols
   pub first : t .first ≡ u .first
   pub top : t .top ≡ u .top
   pub rules : (r : ℕ) → r < t .count → StandsIn u t r

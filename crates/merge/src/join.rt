@@ -34,7 +34,7 @@ pub fn has_clash(t: Thread, u: Thread) -> bool
     false
 }
 
-// The thread of the rules of both, with the ends of the first.
+// The thread of the rules of both, with the head fields of the first.
 pub fn join(t: Thread, u: Thread) -> Joined
     requires { ⌜ Listed t × Listed u ⌝ }
     ensures { λ r. ⌜ Joins t u r ⌝ }
@@ -47,6 +47,7 @@ pub fn join(t: Thread, u: Thread) -> Joined
     Joined {
         fits: found.fits,
         thread: Thread {
+            symbols: t.symbols,
             first,
             top,
             held: [

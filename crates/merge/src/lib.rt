@@ -1,7 +1,8 @@
 // Two models made one: the head that they share, and in each thread the rules of either, each once, in order, and held as it was. What that
 // means is defined in specs/.
 ghost use mathlib.Core.Path.{_≡_};
-ghost use Rattle.merge.specs.Answer.{sameTop, sameEnds, sameHead, partsFault, clashFault, sizeFault, madeOne, mergingBy, mergingOf, Makes};
+ghost use Rattle.merge.specs.Answer.{sameTop, sameFields, sameHead, partsFault, clashFault, sizeFault};
+ghost use Rattle.merge.specs.Answer.{madeOne, mergingBy, mergingOf, Makes};
 ghost use Rattle.model.specs.Valid.{Valid};
 ghost use Rattle.model.specs.Zero.{zeroModel};
 use model::Model;
@@ -124,16 +125,19 @@ fn same_head(m: Model, n: Model) -> bool
     if m.target.0 != n.target.0 {
         return false;
     }
-    if same_ends(m.a, n.a) {
-        return same_ends(m.b, n.b);
+    if same_fields(m.a, n.a) {
+        return same_fields(m.b, n.b);
     }
     false
 }
 
-// Whether two threads start with the same symbol and are asked for the same top.
-fn same_ends(t: Thread, u: Thread) -> bool
-    ensures { λ r. ⌜ r ≡ sameEnds t u ⌝ }
+// Whether two threads have the same symbol count, first symbol and top.
+fn same_fields(t: Thread, u: Thread) -> bool
+    ensures { λ r. ⌜ r ≡ sameFields t u ⌝ }
 {
+    if t.symbols != u.symbols {
+        return false;
+    }
     if t.first.0 != u.first.0 {
         return false;
     }

@@ -17,6 +17,9 @@ const HELD_TWO: [u8; 27] =
 
 const LESS_TWO: [u8; 15] = *b"\xC8\x03\x02\x06\x00\x00\x00\x01\x00\x01\x01\x03\x10\x02\x00";
 
+// Symbol 1 in a rule of A.
+const USES_ONE: [u8; 5] = *b"\x48\x03\x01\x00\x01";
+
 // An answer's number, 0 where a record was written, and the record's length.
 struct Made {
     answer: u8,
@@ -149,7 +152,15 @@ fn counting(bytes: &[u8], count: usize) -> Model {
     m
 }
 
-// Models that no record gives: what is in unused places is not looked at; and each model's own faults, 3, 4, 13 and 11, come before 14,
+// The model of a record, with this count of A's symbols.
+fn limited(bytes: &[u8], symbols: u8) -> Model {
+    let reading = record::read(bytes);
+    let mut m = reading.model;
+    m.a.symbols = symbols;
+    m
+}
+
+// Models that no record gives: what is in unused places is not looked at; and each model's own faults, 3, 4, 13, 11 and 17, come before 14,
 // the first model's before the second's.
 fn values() -> Tally {
     let two = counting(&vectors::TWO, 3);
@@ -159,6 +170,9 @@ fn values() -> Tally {
     let many = counting(&vectors::TWO, 65);
     let twice = counting(&vectors::TWO, 4);
     let unlisted = counting(&HELD_TWO, 2);
+    let none = limited(&vectors::TWO, 0);
+    let over = limited(&vectors::TWO, 17);
+    let above = limited(&USES_ONE, 1);
     let mut t = Tally::new();
     t = t.counted(makes(two, less, &vectors::TWO));
     t = t.counted(makes(less, two, &vectors::TWO));
@@ -171,7 +185,11 @@ fn values() -> Tally {
     t = t.counted(refuses(twice, many, 13));
     t = t.counted(refuses(one, twice, 13));
     t = t.counted(refuses(unlisted, twice, 11));
-    t.counted(refuses(one, unlisted, 11))
+    t = t.counted(refuses(one, unlisted, 11));
+    t = t.counted(refuses(none, above, 3));
+    t = t.counted(refuses(two, over, 3));
+    t = t.counted(refuses(above, blank, 17));
+    t.counted(refuses(two, above, 17))
 }
 
 // The case at a place of a file: two records with their lengths, the answer, and the record of both with its length.

@@ -26,6 +26,7 @@ use Rattle.model.proofs.Ranges.{valid-fits}
 back-thread : {t u : Thread} → SameThread t u → SameThread u t
 back-thread s =
     record {
+      symbols = sym (s .symbols);
       first = sym (s .first);
       top = sym (s .top);
       held = sym (s .held);
@@ -51,6 +52,7 @@ thread-of s B = s .b
 fits : {g h : ℕ} {t u : Thread} → g ≡ h → SameThread t u → ThreadFits g t → ThreadFits h u
 fits {g} {h} {t} {u} e s f =
     record {
+      symbols = rw (← s .symbols) (f .symbols);
       first = rw (← s .first) (f .first);
       top = rw (← s .top) (f .top);
       count = rw (← s .count) (f .count);
@@ -59,6 +61,12 @@ fits {g} {h} {t} {u} e s f =
           let next : suc r < t .count = rw (s .count) k in
           rw (← s .rules r (omega arith), ← s .rules (suc r) next) (f .order r next);
       free = λ r h k. rw (← s .held) (f .free r (rw (s .count) h) k);
+      below = record {
+        first = rw (← s .symbols, ← s .first) (f .below .first);
+        top = rw (← s .symbols, ← s .top) (f .below .top);
+        before = λ r k. let j : r < t .count = rw (s .count) k in rw (← s .symbols, ← s .rules r j) (f .below .before r j);
+        new = λ r k. let j : r < t .count = rw (s .count) k in rw (← s .symbols, ← s .rules r j) (f .below .new r j);
+      };
     }
 
 -- A model that is the same as a valid one is valid.

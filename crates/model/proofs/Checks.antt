@@ -32,6 +32,24 @@ closes {r} {n} e = rw e (go n)
     go zero = refl
     go (suc k) = refl
 
+-- What holds of each check's answer, and of 0 for none, holds of the first fault ..
+pub of-first : (P : ℕ → Type 0) {n : ℕ} (ns : List ℕ) → P n → P (firstOf ns) → P (firstOf (n ∷ ns))
+unfolding firstOf
+of-first P {n} ns = go n
+  where
+    go : (k : ℕ) → P k → P (firstOf ns) → P (firstOf (k ∷ ns))
+    go zero p q = q
+    go (suc k) p q = p
+
+pub of-none : (P : ℕ → Type 0) → P 0 → P (firstOf [])
+unfolding firstOf
+of-none P z = z
+
+-- .. where a test answers its number or 0.
+pub of-test : (P : ℕ → Type 0) {n : ℕ} → P 0 → P n → (test : Bool) → P (refuse n test)
+of-test P z p true = z
+of-test P z p false = p
+
 -- Of a check and then a test, nothing is refused exactly if the check finds nothing and the test passes.
 pub both-pass : (fault n : ℕ) (test : Bool) → (firstOf (fault ∷ refuse (suc n) test ∷ []) ≡ 0) ↔ ((fault ≡ 0) × T test)
 unfolding firstOf

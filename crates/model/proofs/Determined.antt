@@ -6,11 +6,11 @@ use Prim.Native.Nat.{ℕ}
 use Rattle.model.specs.declared.Model.{Model}
 use Rattle.model.specs.declared.Rule.{Rule}
 use Rattle.model.proofs.all_zero.Reads as all-zero
+use Rattle.model.proofs.cross_fault.Reads as cross-fault
 use Rattle.model.proofs.fault.Reads as fault
 use Rattle.model.proofs.is_held.Reads as is-held
 use Rattle.model.proofs.key.Reads as key
 use Rattle.model.proofs.line_bits.Reads as line-bits
-use Rattle.model.proofs.mark_fault.Reads as mark-fault
 use Rattle.model.proofs.zero_model.Reads as zero-model
 
 -- Each contract is `Post`, of the arguments, the answer and the arguments at exit. Two answers that meet it are the same: it determines ..
@@ -18,6 +18,11 @@ use Rattle.model.proofs.zero_model.Reads as zero-model
 -- .. the number of a model's first fault, ..
 pub fault-determined : (m : Model) (r s : ℕ) → fault.Post tt (m, tt) r (m, tt) → fault.Post tt (m, tt) s (m, tt) → r ≡ s
 fault-determined m r s p q = p ∙ sym q
+
+-- .. and of its first fault between parts, ..
+pub cross-fault-determined : (m : Model) (r s : ℕ)
+    → cross-fault.Post tt (m, tt) r (m, tt) → cross-fault.Post tt (m, tt) s (m, tt) → r ≡ s
+cross-fault-determined m r s p q = p ∙ sym q
 
 -- .. the key of a rule, ..
 pub key-determined : (x : Rule) (r s : ℕ) → key.Post tt (x, tt) r (x, tt) → key.Post tt (x, tt) s (x, tt) → r ≡ s
@@ -32,12 +37,6 @@ is-held-determined marks n r s p q = p ∙ sym q
 pub all-zero-determined : (marks : List ℕ) (r s : Bool)
     → all-zero.Post tt (marks, tt) r (marks, tt) → all-zero.Post tt (marks, tt) s (marks, tt) → r ≡ s
 all-zero-determined marks r s p q = p ∙ sym q
-
--- .. the number for a mark on a rule that is not there, ..
-pub mark-fault-determined : (marks : List ℕ) (count r s : ℕ)
-    → mark-fault.Post tt (marks, (count, tt)) r (marks, (count, tt))
-    → mark-fault.Post tt (marks, (count, tt)) s (marks, (count, tt)) → r ≡ s
-mark-fault-determined marks count r s p q = p ∙ sym q
 
 -- .. the model that is all zero, ..
 pub zero-model-determined : (r s : Model) → zero-model.Post tt tt r tt → zero-model.Post tt tt s tt → r ≡ s

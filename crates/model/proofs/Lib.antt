@@ -17,6 +17,7 @@ pub mod Results
 pub mod Sets
 pub mod Steps
 pub mod Stores
+pub mod Symbols
 pub mod Table
 pub mod Tests
 pub mod Turns

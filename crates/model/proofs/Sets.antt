@@ -117,6 +117,7 @@ module _ {g : ℕ} (t u : Thread) (fitT : ThreadFits g t) (fitU : ThreadFits g u
 turned : {t u : Thread} → SameSet t u → SameSet u t
 turned s =
     record {
+      symbols = sym (s .symbols);
       first = sym (s .first);
       top = sym (s .top);
       rules = λ x. (s .rules x .1, s .rules x .0);
@@ -143,6 +144,7 @@ same-thread t u f k s h l small small′ =
       | no i ↦ f .free p (omega arith) b ∙ sym (k .free p (omega arith) b)
     ] in
     record {
+      symbols = s .symbols;
       first = s .first;
       top = s .top;
       held = same-bytes (t .held) (u .held) h l small small′ marks;

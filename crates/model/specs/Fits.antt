@@ -12,11 +12,23 @@ use Rattle.model.specs.declared.Top.the-variants.{Any, Named}
 use Rattle.model.specs.Order.{keyOf}
 use Rattle.model.specs.Rules.{ruleAt, heldAt}
 
--- The symbols of a right side are at most 15.
+-- The symbols of a right side are below a limit ..
+abbrev pub RightBelow : ℕ → Right → Type 0
+RightBelow limit Remove = Unit {0}
+RightBelow limit (Swap a) = a .0 < limit
+RightBelow limit (Push a b) = (a .0 < limit) × (b .0 < limit)
+
+-- .. and so is a top that is named.
+abbrev pub TopBelow : ℕ → Top → Type 0
+TopBelow limit Any = Unit {0}
+TopBelow limit (Named s) = s .0 < limit
+
+-- Each of them is a symbol, so at most 15.
 abbrev pub RightFits : Right → Type 0
-RightFits Remove = Unit {0}
-RightFits (Swap a) = a .0 ≤ 15
-RightFits (Push a b) = (a .0 ≤ 15) × (b .0 ≤ 15)
+RightFits x = RightBelow 16 x
+
+abbrev pub TopFits : Top → Type 0
+TopFits x = TopBelow 16 x
 
 -- A rule's states are below g and its symbols at most 15.
 pub record RuleFits (g : ℕ) (r : Rule) : Type 0 where
@@ -25,20 +37,24 @@ pub record RuleFits (g : ℕ) (r : Rule) : Type 0 where
   pub next : r .after .0 < g
   pub symbols : RightFits (r .right)
 
--- A top that is named is at most 15.
-abbrev pub TopFits : Top → Type 0
-TopFits Any = Unit {0}
-TopFits (Named s) = s .0 ≤ 15
+-- The symbols of a thread are below a limit, wherever one stands: the first, the top, and in each rule that before and the new ones.
+pub record SymbolsBelow (limit : ℕ) (t : Thread) : Type 0 where
+  pub first : t .first .0 < limit
+  pub top : TopBelow limit (t .top)
+  pub before : (r : ℕ) → r < t .count → ruleAt t r .symbol .0 < limit
+  pub new : (r : ℕ) → r < t .count → RightBelow limit (ruleAt t r .right)
 
--- A thread's first symbol, its top, its count and each of its rules are in range, its rules ascend, and no rule number beyond its list is
--- held.
+-- A thread's symbol count, first symbol, top, rule count and each of its rules are in range, its rules ascend, no rule number beyond its
+-- list is held, and its symbols are below their count.
 pub record ThreadFits (g : ℕ) (t : Thread) : Type 0 where
+  pub symbols : (1 ≤ t .symbols) × (t .symbols ≤ 16)
   pub first : t .first .0 ≤ 15
   pub top : TopFits (t .top)
   pub count : t .count ≤ 64
   pub rules : (r : ℕ) → r < t .count → RuleFits g (ruleAt t r)
   pub order : (r : ℕ) → suc r < t .count → keyOf (ruleAt t r) < keyOf (ruleAt t (suc r))
   pub free : (r : ℕ) → t .count ≤ r → r < 64 → heldAt t r ≡ false
+  pub below : SymbolsBelow (t .symbols) t
 
 -- Every used place of a model is in range, and its rules ascend.
 pub record Fits (m : Model) : Type 0 where

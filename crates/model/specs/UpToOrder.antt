@@ -23,6 +23,7 @@ pub record HeldRuleOf (t : Thread) (x : Rule) : Type 0 where
 
 -- Two threads have equal fields, the same rules, and the same rules held.
 pub record SameSet (t u : Thread) : Type 0 where
+  pub symbols : t .symbols ≡ u .symbols
   pub first : t .first ≡ u .first
   pub top : t .top ≡ u .top
   pub rules : (x : Rule) → RuleOf t x ↔ RuleOf u x

@@ -18,10 +18,20 @@ use Rattle.model.specs.Order.{above}
 use Rattle.model.specs.Results.{refuse, firstOf}
 use Rattle.model.specs.Rules.{ruleAt}
 
--- A top that is named is a symbol, so at most 15.
-unfoldable pub topFault : Top → ℕ
-topFault Any = 0
-topFault (Named s) = refuse 3 (leb (s .0) 15)
+-- Refusal n of a symbol that is not below a limit.
+unfoldable pub symbolFault : ℕ → ℕ → Symbol → ℕ
+symbolFault n limit s = refuse n (ltb (s .0) limit)
+
+-- The same of a top that is named ..
+unfoldable pub topFault : ℕ → ℕ → Top → ℕ
+topFault n limit Any = 0
+topFault n limit (Named s) = symbolFault n limit s
+
+-- .. and of the new symbols of a rule.
+unfoldable pub rightFault : ℕ → ℕ → Right → ℕ
+rightFault n limit Remove = 0
+rightFault n limit (Swap a) = symbolFault n limit a
+rightFault n limit (Push a b) = firstOf (symbolFault n limit a ∷ symbolFault n limit b ∷ [])
 
 -- G, K, and the start and target states.
 unfoldable pub rangeFault : Model → ℕ
@@ -30,29 +40,22 @@ rangeFault m =
     (refuse 3 (leb 1 (m .g) && leb (m .g) 4) ∷ refuse 3 (leb 1 (m .k) && leb (m .k) 3) ∷
     refuse 3 (ltb (m .start .0) (m .g)) ∷ refuse 3 (ltb (m .target .0) (m .g)) ∷ [])
 
--- The head fields in the record's order: those, then the tops of A and of B, then their first symbols.
-unfoldable pub headFault : Model → ℕ
-headFault m =
+-- The head fields of a thread: its symbol count is 1 to 16, and its top, if one is named, and its first symbol are at most 15.
+unfoldable pub fieldsFault : Thread → ℕ
+fieldsFault t =
     firstOf
-    (rangeFault m ∷ topFault (m .a .top) ∷ topFault (m .b .top) ∷ refuse 3 (leb (m .a .first .0) 15) ∷
-    refuse 3 (leb (m .b .first .0) 15) ∷ [])
+    (refuse 3 (leb 1 (t .symbols) && leb (t .symbols) 16) ∷ topFault 3 16 (t .top) ∷ symbolFault 3 16 (t .first) ∷ [])
 
--- A symbol of a rule is at most 15.
-unfoldable pub symbolFault : Symbol → ℕ
-symbolFault s = refuse 4 (leb (s .0) 15)
-
--- The new symbols of a rule.
-unfoldable pub rightFault : Right → ℕ
-rightFault Remove = 0
-rightFault (Swap a) = symbolFault a
-rightFault (Push a b) = firstOf (symbolFault a ∷ symbolFault b ∷ [])
+-- The head fields: those of the model, then those of A and of B.
+unfoldable pub headFault : Model → ℕ
+headFault m = firstOf (rangeFault m ∷ fieldsFault (m .a) ∷ fieldsFault (m .b) ∷ [])
 
 -- A rule's states are below G and its symbols at most 15.
 unfoldable pub ruleFault : ℕ → Rule → ℕ
 ruleFault g r =
     firstOf
-    (refuse 4 (ltb (r .before .0) g) ∷ symbolFault (r .symbol) ∷ refuse 4 (ltb (r .after .0) g) ∷
-    rightFault (r .right) ∷ [])
+    (refuse 4 (ltb (r .before .0) g) ∷ symbolFault 4 16 (r .symbol) ∷ refuse 4 (ltb (r .after .0) g) ∷
+    rightFault 4 16 (r .right) ∷ [])
 
 -- The refusal number of n rules from number r on, each in turn: its own fault by 4, then 13 unless it is above the one before it.
 unfoldable pub rulesFault : ℕ → Thread → ℕ → ℕ → ℕ
@@ -73,15 +76,30 @@ freeFrom marks r (suc n) = not (bitAt marks r) && freeFrom marks (suc r) n
 unfoldable pub markFault : List ℕ → ℕ → ℕ
 markFault marks count = refuse 11 (freeFrom marks count (64 - count))
 
--- The marks of A, and then those of B.
-unfoldable pub marksFault : Model → ℕ
-marksFault m = firstOf (markFault (m .a .held) (m .a .count) ∷ markFault (m .b .held) (m .b .count) ∷ [])
+-- The symbols of n rules from number r on, before and new, are below a limit.
+unfoldable pub usedFault : ℕ → Thread → ℕ → ℕ → ℕ
+usedFault limit t r zero = 0
+usedFault limit t r (suc n) =
+    firstOf
+    (symbolFault 17 limit (ruleAt t r .symbol) ∷ rightFault 17 limit (ruleAt t r .right) ∷ usedFault limit t (suc r) n ∷ [])
 
--- The refusal number of a model handed in as values: its head by 3, then A's rules by 4 and 13, then B's, then A's marks of held rules
--- by 11, then B's; 0 for none.
+-- Wherever a symbol of a thread stands, it is below the thread's symbol count: the first, the top, and those of its rules.
+unfoldable pub symbolsFault : Thread → ℕ
+symbolsFault t =
+    firstOf
+    (symbolFault 17 (t .symbols) (t .first) ∷ topFault 17 (t .symbols) (t .top) ∷ usedFault (t .symbols) t 0 (t .count) ∷ [])
+
+-- What the parts of a model ask of each other: marks stand on rules of the lists, A's and then B's, and then symbols are below the counts.
+unfoldable pub crossFault : Model → ℕ
+crossFault m =
+    firstOf
+    (markFault (m .a .held) (m .a .count) ∷ markFault (m .b .held) (m .b .count) ∷ symbolsFault (m .a) ∷ symbolsFault (m .b) ∷
+    [])
+
+-- The refusal number of a model handed in as values: its head by 3, then A's rules by 4 and 13, then B's, then the marks of held rules by
+-- 11, and then the symbols by 17; 0 for none.
 unfoldable pub faultOf : Model → ℕ
-faultOf m =
-    firstOf (headFault m ∷ threadFault (m .g) (m .a) ∷ threadFault (m .g) (m .b) ∷ marksFault m ∷ [])
+faultOf m = firstOf (headFault m ∷ threadFault (m .g) (m .a) ∷ threadFault (m .g) (m .b) ∷ crossFault m ∷ [])
 
 -- The refusal of a call that fills a store: the model's fault, then 7 where a store has no room for what it must hold; 0
 -- for none.
@@ -94,6 +112,7 @@ Valid m = faultOf m ≡ 0
 
 -- Two threads agree in every place that is used.
 pub record SameThread (t u : Thread) : Type 0 where
+  pub symbols : t .symbols ≡ u .symbols
   pub first : t .first ≡ u .first
   pub top : t .top ≡ u .top
   pub held : t .held ≡ u .held

@@ -32,7 +32,8 @@ noMarks = replicate 8 0
 
 -- A thread whose places are all zero.
 abbrev pub zeroThread : Thread
-zeroThread = record { first = record { 0 = 0 }; top = Any; held = noMarks; count = 0; rules = replicate 64 zeroRule }
+zeroThread =
+    record { symbols = 0; first = record { 0 = 0 }; top = Any; held = noMarks; count = 0; rules = replicate 64 zeroRule }
 
 -- A model whose places are all zero.
 abbrev pub zeroModel : Model

@@ -3,7 +3,7 @@
 ghost use mathlib.Core.Path.{_≡_};
 ghost use Rattle.model.specs.Bits.{bitAt, allZero};
 ghost use Rattle.model.specs.Order.{keyOf};
-ghost use Rattle.model.specs.Valid.{faultOf, markFault};
+ghost use Rattle.model.specs.Valid.{faultOf, crossFault};
 ghost use Rattle.model.specs.Lines.{tableBits};
 ghost use Rattle.model.specs.Zero.{zeroModel};
 
@@ -36,10 +36,11 @@ pub enum Top {
     Named(Symbol),
 }
 
-// A thread: the symbol its stack holds at the start, what is asked of its top at the target, which of its rules are held, and its
-// first `count` rules. The places from `count` on are unused. Rule r is held where bit r mod 8 of byte r div 8 stands: no turn ends
-// right after it.
+// A thread: how many stack symbols it has (the size of its stack alphabet), the symbol its stack holds at the start, what is asked of its
+// top at the target, which of its rules are held, and its first `count` rules. The places from `count` on are unused. Rule r is held where
+// bit r mod 8 of byte r div 8 stands: no turn ends right after it.
 pub struct Thread {
+    pub symbols: u8,
     pub first: Symbol,
     pub top: Top,
     pub held: [u8; 8],
@@ -102,13 +103,31 @@ pub fn fault(m: Model) -> u8
     if second != 0 {
         return second;
     }
+    cross_fault(m)
+}
+
+// The refusal number of the first fault between the parts of a model, or 0: a mark on a rule that is not in its list, or a symbol not below
+// its thread's count.
+pub fn cross_fault(m: Model) -> u8
+    ensures { λ r. ⌜ r ≡ crossFault m ⌝ }
+{
+    let a = m.a;
     let marks_a = a.held;
-    let third = mark_fault(marks_a, a.count);
+    let first = faults::mark_fault(marks_a, a.count);
+    if first != 0 {
+        return first;
+    }
+    let b = m.b;
+    let marks_b = b.held;
+    let second = faults::mark_fault(marks_b, b.count);
+    if second != 0 {
+        return second;
+    }
+    let third = faults::symbols_fault(a);
     if third != 0 {
         return third;
     }
-    let marks_b = b.held;
-    mark_fault(marks_b, b.count)
+    faults::symbols_fault(b)
 }
 
 // The key of a rule, by which the rules of a thread ascend.
@@ -153,28 +172,12 @@ pub fn all_zero(marks: [u8; 8]) -> bool
     true
 }
 
-// Refusal 11 for a mark at a rule number that a list of `count` rules lacks, or 0.
-pub fn mark_fault(marks: [u8; 8], count: usize) -> u8
-    ensures { λ n. ⌜ n ≡ markFault marks count ⌝ }
-{
-    if all_zero(marks) {
-        return 0;
-    }
-    let mut r = count;
-    while r < 64 {
-        if is_held(marks, r) {
-            return 11;
-        }
-        r += 1;
-    }
-    0
-}
-
 // A model whose places are all zero.
 pub fn zero_model() -> Model
     ensures { λ r. ⌜ r ≡ zeroModel ⌝ }
 {
     let t = Thread {
+        symbols: 0,
         first: Symbol(0),
         top: Top::Any,
         held: [0u8; 8],

@@ -131,8 +131,19 @@ fn unlisted_mark() -> bool {
     }
 }
 
-// What is refused before 7: a model that is none (3), one with too many rules (4), with a rule that is not above the one before it (13) or
-// with an unlisted mark (11), and what replay refuses.
+// The model with deep stacks, whose symbols are 0 and 1, handed in with this symbol count of A, is refused with this number.
+fn symbols_refused(symbols: u8, number: u8) -> bool {
+    let reading = record::read(&DEEP);
+    let mut m = reading.model;
+    m.a.symbols = symbols;
+    match page::page(m, &[0], &mut []) {
+        Paged::Length(_) => false,
+        Paged::Refused(n) => n == number,
+    }
+}
+
+// What is refused before 7: a model that is none (3), one with too many rules (4), with a rule that is not above the one before it (13),
+// with an unlisted mark (11), with a symbol count out of range (3) or with a symbol at its count (17), and what replay refuses.
 fn refused() -> Tally {
     let two = vectors::TWO;
     let once = vectors::TWO_ONCE;
@@ -142,6 +153,8 @@ fn refused() -> Tally {
     t = t.counted(counts_refused(65, 4));
     t = t.counted(counts_refused(4, 13));
     t = t.counted(unlisted_mark());
+    t = t.counted(symbols_refused(17, 3));
+    t = t.counted(symbols_refused(1, 17));
     t = t.counted(refuses(&two, &[0], 8, &mut []));
     t = t.counted(refuses(&two, &zeros, 8, &mut []));
     t = t.counted(refuses(&two, &[4, 0], 9, &mut []));

@@ -1,5 +1,5 @@
--- 669 bytes decide the answer to a record, and a record is refused by a number from 1 to 6, by 11 or by 13, at the front of any bytes not by
--- 6: every part of the reader is steady, part by part, and a record takes at most 668 bytes.
+-- 671 bytes decide the answer to a record, and a record is refused by a number from 1 to 6, by 11, 13 or 17, at the front of any bytes not
+-- by 6: every part of the reader is steady, part by part, and a record takes at most 670 bytes.
 use mathlib.Core.Bool.{Bool, true, false, not}
 use mathlib.Core.List.{List, [], _∷_, _++_}
 use mathlib.Core.Path.{_≡_, refl}
@@ -13,11 +13,11 @@ use borrow.Author.Tests.{le-leb, lt-leb}
 use Rattle.model.specs.declared.Model.{Model}
 use Rattle.model.specs.Bits.{bit, allZero}
 use Rattle.model.specs.Order.{keyOf}
-use Rattle.model.specs.Results.{refused, accepted, need, unless, refuse, firstOf}
-use Rattle.model.specs.Valid.{freeFrom, markFault, marksFault}
+use Rattle.model.specs.Results.{refused, accepted, need, unless}
+use Rattle.model.proofs.Symbols.{of-cross}
 use Rattle.record.specs.Reader.{Read, andRead, inRange, parseRanged, parseField, ruleMap, parseRight, parseRule}
-use Rattle.record.specs.Reader.{announces, stateOf, parseTarget, parseTop, parseMarks, parseSecond}
-use Rattle.record.specs.Reader.{parseRuleList, parseRules, parseHead, modelOf, marksListed, parseFront, ended, readOf, Refuses}
+use Rattle.record.specs.Reader.{announces, stateOf, parseTarget, parseTop, parseMarks, parseExtras, parseSecond}
+use Rattle.record.specs.Reader.{parseRuleList, parseRules, parseHead, modelOf, crossChecked, parseFront, ended, readOf, Refuses}
 use Rattle.record.proofs.OneField.{field-forth}
 use Rattle.record.proofs.Steady.{Low, Takes, before, Steady, none, one, tested, wider, chained}
 
@@ -111,15 +111,20 @@ marks true = record { takes = takes; decided = decided-by }
         go true = refl
         go false = refl
 
-second : (present : Bool) → Steady 19 (parseSecond present)
-unfolding parseSecond
-second present =
-    chained (field present 3 0 16 0 three) λ bs map rest e.
+extras : (map : ℕ) → Steady 20 (parseExtras map)
+unfolding parseExtras
+extras map =
     chained (top (bit 0 map)) λ bs ta rest e.
     chained (top (bit 1 map)) λ bs tb rest e.
-    chained (marks (bit 2 map)) λ bs ha rest e. chained (marks (bit 3 map)) λ bs hb rest e. none _
+    chained (marks (bit 2 map)) λ bs ha rest e.
+    chained (marks (bit 3 map)) λ bs hb rest e.
+    chained (field (bit 4 map) 3 1 17 16 three) λ bs ca rest e. chained (field (bit 5 map) 3 1 17 16 three) λ bs cb rest e. none _
 
-head : Steady 26 parseHead
+second : (present : Bool) → Steady 21 (parseSecond present)
+unfolding parseSecond
+second present = chained (field present 3 0 64 0 three) λ bs map rest e. extras map
+
+head : Steady 28 parseHead
 unfolding parseHead
 head =
     chained one λ bs map rest e.
@@ -132,31 +137,21 @@ head =
     chained (field (bit 4 map) 3 0 16 0 three) λ bs a rest e.
     chained (field (bit 5 map) 3 0 16 0 three) λ bs b rest e. none _)
 
--- Marks on rules that a list lacks are refused by 11, ..
-marks-refusal : (m : Model) → 0 < marksFault m → marksFault m ≡ 11
-unfolding marksFault markFault firstOf
-marks-refusal m = go (freeFrom (m .a .held) (m .a .count) (64 - m .a .count)) (freeFrom (m .b .held) (m .b .count) (64 - m .b .count))
+-- What the parts ask of each other is refused by 11 or 17, and no byte is taken.
+checked : (m : Model) → Steady 0 (crossChecked m)
+checked m = of-cross (λ n. Steady 0 (λ bs. unless n (accepted (m, bs)))) (none m) (stopped 11 (omega arith)) (stopped 17 (omega arith)) m
   where
-    go : (a b : Bool) → 0 < firstOf (refuse 11 a ∷ refuse 11 b ∷ []) → firstOf (refuse 11 a ∷ refuse 11 b ∷ []) ≡ 11
-    go true true h = absurd (omega arith)
-    go true false h = refl
-    go false b h = refl
+    stopped : (n : ℕ) → Low n → Steady 0 (λ bs. unless n (accepted (m, bs)))
+    stopped zero l = none m
+    stopped (suc n) l = record { takes = λ bs. l; decided = λ bs more h. refl }
 
--- .. and no byte is taken.
-listed : (m : Model) → Steady 0 (marksListed m)
-listed m = go (marksFault m) (marks-refusal m)
-  where
-    go : (n : ℕ) → (0 < n → n ≡ 11) → Steady 0 (λ bs. unless n (accepted (m, bs)))
-    go zero h = none m
-    go (suc n) h = let e = h (omega arith) in record { takes = λ bs. omega arith; decided = λ bs more l. refl }
-
--- A record at the front takes at most 668 bytes, 26 + 2 · 321, and they decide it.
-pub front : Steady 668 parseFront
+-- A record at the front takes at most 670 bytes, 28 + 2 · 321, and they decide it.
+pub front : Steady 670 parseFront
 unfolding parseFront
 front =
     chained head λ bs h rest e.
     chained (rules (bit 6 (h .map)) (h .g)) λ bs ra rest e.
-    chained (rules (bit 7 (h .map)) (h .g)) λ bs rb rest e. listed (modelOf h ra rb)
+    chained (rules (bit 7 (h .map)) (h .g)) λ bs rb rest e. checked (modelOf h ra rb)
 
 -- The refusal of a record at the front ..
 pub front-refusal : (bs : List ℕ) {n : ℕ} → parseFront bs ≡ refused n → Low n
@@ -167,25 +162,25 @@ pub record-refusal : (bs : List ℕ) {n : ℕ} → readOf bs ≡ refused n → R
 unfolding readOf
 record-refusal bs {n} = go (parseFront bs) (front .takes bs)
   where
-    go : (r : Read Model) → Takes (length bs) 668 r → andRead r ended ≡ refused n → Refuses 6 n
-    go (refused k) t e = let same : k ≡ n = cc in let low = rw same at t in (low .0, low .1, λ h. low .2 (omega arith), low .3)
+    go : (r : Read Model) → Takes (length bs) 670 r → andRead r ended ≡ refused n → Refuses 6 n
+    go (refused k) t e = let same : k ≡ n = cc in let low = rw same at t in (low .0, low .1, λ h. low .2 (omega arith), low .3, low .4)
     go (accepted (m, [])) t e = let z : _≡_ {A = ℕ} 0 1 = cc in absurd (omega arith)
     go (accepted (m, b ∷ rest)) t e = let six : _≡_ {A = ℕ} 6 n = cc in omega arith
 
--- A byte is left of 669, and more behind it changes nothing.
-left-over : (more : List ℕ) (r : Read Model) → Takes 669 668 r → andRead (before more r) ended ≡ andRead r ended
+-- A byte is left of 671, and more behind it changes nothing.
+left-over : (more : List ℕ) (r : Read Model) → Takes 671 670 r → andRead (before more r) ended ≡ andRead r ended
 left-over more (refused n) t = refl
 left-over more (accepted (m, [])) t = absurd (omega arith)
 left-over more (accepted (m, b ∷ rest)) t = refl
 
--- The first 669 bytes decide the answer.
-pub decided : (bs : List ℕ) → readOf bs ≡ readOf (take 669 bs)
+-- The first 671 bytes decide the answer.
+pub decided : (bs : List ℕ) → readOf bs ≡ readOf (take 671 bs)
 unfolding readOf
-decided bs = elim (decLt 669 (length bs)) [
+decided bs = elim (decLt 671 (length bs)) [
   | yes h ↦
-      let size : length (take 669 bs) ≡ 669 = length-take-le 669 bs (omega arith) in
-      let first : parseFront bs ≡ before (drop 669 bs) (parseFront (take 669 bs)) =
-      rw take-append-drop at (front .decided (take 669 bs) (drop 669 bs) (omega arith)) in
-      rw first (left-over (drop 669 bs) (parseFront (take 669 bs)) (rw size at (front .takes (take 669 bs))))
-  | no h ↦ rw (take-all 669 bs (omega arith))
+      let size : length (take 671 bs) ≡ 671 = length-take-le 671 bs (omega arith) in
+      let first : parseFront bs ≡ before (drop 671 bs) (parseFront (take 671 bs)) =
+      rw take-append-drop at (front .decided (take 671 bs) (drop 671 bs) (omega arith)) in
+      rw first (left-over (drop 671 bs) (parseFront (take 671 bs)) (rw size at (front .takes (take 671 bs))))
+  | no h ↦ rw (take-all 671 bs (omega arith))
 ]

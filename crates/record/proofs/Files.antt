@@ -45,9 +45,11 @@ record-marks m p h =
     let target : Bytes (targetBytes (m .target .0) x) = behind fields aim before in
     let second = behind (fieldOf 0 (secondMap x)) (secondFields x) (target .1) in
     let tops : List ℕ = topOf (m .a .top) ++ topOf (m .b .top) in
+    let marks : List ℕ = tops ++ heldBytes (m .a .held) ++ heldBytes (m .b .held) in
+    let upTo = ahead marks (fieldOf 16 (m .a .symbols)) (ahead (marks ++ fieldOf 16 (m .a .symbols)) _ second) in
     record {
-      a = marks-bytes (m .a .held) (p .heldA) (behind tops (heldBytes (m .a .held)) (ahead (tops ++ heldBytes (m .a .held)) (heldBytes (m .b .held)) second));
-      b = marks-bytes (m .b .held) (p .heldB) (behind (tops ++ heldBytes (m .a .held)) (heldBytes (m .b .held)) second);
+      a = marks-bytes (m .a .held) (p .heldA) (behind tops (heldBytes (m .a .held)) (ahead (tops ++ heldBytes (m .a .held)) (heldBytes (m .b .held)) upTo));
+      b = marks-bytes (m .b .held) (p .heldB) (behind (tops ++ heldBytes (m .a .held)) (heldBytes (m .b .held)) upTo);
     }
 
 -- Accepted records whose models agree up to the order of their rules are the same bytes.

@@ -2,9 +2,8 @@
 use mathlib.Core.Bool.{Bool, true, false, not, cond}
 use mathlib.Core.List.{List, [], _∷_, _++_}
 use mathlib.Core.Path.{_≡_, refl, _∙_}
-use Prim.Native.Nat.{ℕ, _+_, _≤_, _<_, zero-le}
-use native.Mathlib.Nat.{zero-add, add-zero, suc-add, add-comm}
-use native.Mathlib.Numerals.{add-one}
+use Prim.Native.Nat.{ℕ, suc, _+_, _≤_, _<_, zero-le}
+use native.Mathlib.Nat.{zero-add, add-zero, suc-add}
 use native.Mathlib.Omega.{arith}
 use lib.Dec.{T, eqb}
 use lib.ListN.{length, getD}
@@ -15,7 +14,7 @@ use Rattle.model.specs.Results.{accepted}
 use Rattle.model.specs.Valid.{Places}
 use Rattle.model.proofs.Results.{checked}
 use Rattle.model.proofs.Tests.{passed}
-use Rattle.record.specs.Older.{targetByte}
+use Rattle.record.specs.Older.{targetPlace, targetByte}
 use Rattle.record.specs.Reader.{parseByte, parseField, announces, stateOf, parseTarget, parseSecond, Head, parseHead}
 use Rattle.writer.specs.Writer.{fieldOf, weightOf, mapOf, Second, secondOf, secondMap, targetBytes}
 use Rattle.record.proofs.OneField.{parted, carried, byte-forth, field-back, FieldRead, field-forth}
@@ -61,8 +60,8 @@ head-back m f p rest =
     let low : m .target .0 < 128 = omega (arith, f .target, f .g .1) in
     let map = secondMap (secondOf m) in
     let target = flagged (m .target .0) map low in
-    let extraA : ExtraFits (secondOf m .a) = record { top = f .a .top; held = p .heldA } in
-    let extraB : ExtraFits (secondOf m .b) = record { top = f .b .top; held = p .heldB } in
+    let extraA : ExtraFits (secondOf m .a) = record { top = f .a .top; held = p .heldA; symbols = f .a .symbols } in
+    let extraB : ExtraFits (secondOf m .b) = record { top = f .b .top; held = p .heldB; symbols = f .b .symbols } in
     rw (
       b .bit3,
       field-back 3 4 (m .g) _ (b .bit0) (f .g .0) g,
@@ -96,14 +95,23 @@ past : {present : Bool} {low limit default v : ℕ} {bs rest : List ℕ} → Fie
     → getD bs (oneIf present + i) 0 ≡ getD rest i 0
 past {default = default} {v = v} {rest = rest} f i = rw (f .bytes, ← field-size f) (behind (fieldOf default v) rest i)
 
--- The target byte comes after the map, G, K and the start state.
+-- The target byte comes after the map, G, K and the start state, and what follows it is behind it.
 pub target-place : {map g k start : ℕ} {bs m₁ m₂ m₃ m₄ : List ℕ} → bs ≡ map ∷ m₁
     → FieldRead (bit 0 map) 1 5 4 g m₁ m₂ → FieldRead (bit 1 map) 1 4 2 k m₂ m₃ → FieldRead (bit 2 map) 0 g 0 start m₃ m₄
+    → (i : ℕ) → getD bs (targetPlace bs + i) 0 ≡ getD m₄ i 0
+unfolding targetPlace
+target-place {map} {m₁ = m₁} e g k s i =
+    let last = oneIf (bit 2 map) in
+    let second = oneIf (bit 1 map) in
+    let first = oneIf (bit 0 map) in
+    let place : 1 + (first + (second + last)) + i ≡ suc (first + (second + (last + i))) = omega arith in
+    rw (e, place) (past g (second + (last + i)) ∙ (past k (last + i) ∙ past s i))
+
+-- So it is the first of those that are left.
+pub target-first : {map g k start : ℕ} {bs m₁ m₂ m₃ m₄ : List ℕ} → bs ≡ map ∷ m₁
+    → FieldRead (bit 0 map) 1 5 4 g m₁ m₂ → FieldRead (bit 1 map) 1 4 2 k m₂ m₃ → FieldRead (bit 2 map) 0 g 0 start m₃ m₄
     → targetByte bs ≡ getD m₄ 0 0
-unfolding targetByte
-target-place {map} {m₁ = m₁} e g k s =
-    let last = rw add-zero at (past s 0) in
-    rw (e, add-comm 1, add-one) (past g (oneIf (bit 1 map) + oneIf (bit 2 map)) ∙ (past k (oneIf (bit 2 map)) ∙ last))
+target-first e g k s = rw add-zero at (target-place e g k s 0)
 
 -- What reading a head tells, of a map that is a byte.
 pub record HeadRead (bs : List ℕ) (h : Head) (rest : List ℕ) : Type 0 where
@@ -158,7 +166,7 @@ head-made {map} {target = target} e t g k s d n a b =
       target = d .1;
       extraA = n .a;
       extraB = n .b;
-      announced = rw (target-place e g k s, d .0) (n .stands);
+      announced = rw (target-first e g k s, d .0) (n .stands);
       first = omega (arith, a .most);
       second = omega (arith, b .most);
     }

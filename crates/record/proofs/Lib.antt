@@ -12,6 +12,8 @@ pub mod OneField
 pub mod Parts
 pub mod Records
 pub mod RuleLists
+pub mod SecondMaps
 pub mod Steady
 pub mod ThreadRules
 pub mod Tops
+pub mod Uncounted

@@ -2,38 +2,35 @@
 -- over all bytes.
 use mathlib.Core.Bool.{Bool, true, false, not, _&&_, _||_, cond, Bool·beq, Bool·not-not, true≢false, false≢true}
 use mathlib.Core.Logic.{_↔_, inl, inr}
-use mathlib.Core.List.{List}
-use mathlib.Core.Path.{_≡_, refl, subst, _∙_}
-use Prim.Native.Nat.{ℕ, zero, suc, _+_, _%_, _<_}
+use mathlib.Core.Path.{_≡_, refl, subst}
+use Prim.Native.Nat.{ℕ, zero, suc, _+_, _<_}
 use native.Mathlib.Nat.{le-suc-iff}
 use native.Mathlib.Omega.{arith}
 use lib.Dec.{T, ltb, eqb}
 use Rattle.model.specs.declared.Right.{Right}
 use Rattle.model.specs.declared.Right.the-variants.{Remove, Swap, Push}
-use Rattle.model.specs.declared.Top.{Top}
-use Rattle.model.specs.declared.Top.the-variants.{Any, Named}
-use Rattle.model.specs.Bits.{bit, allZero}
+use Rattle.model.specs.Bits.{bit}
 use Rattle.model.proofs.Tests.{both, order, equal}
-use Rattle.record.specs.Reader.{ruleMap, announces, stateOf}
-use Rattle.writer.specs.Writer.{symbolBits, topWeight, Second, secondMap}
+use Rattle.record.specs.Reader.{ruleMap}
+use Rattle.writer.specs.Writer.{symbolBits}
 
 -- A test that passes at both truth values.
-always : (Bool → Bool) → Bool
+unfoldable pub always : (Bool → Bool) → Bool
 always f = f true && f false
 
 -- It passes at each.
-each : (f : Bool → Bool) → T (always f) → (b : Bool) → T (f b)
+pub each : (f : Bool → Bool) → T (always f) → (b : Bool) → T (f b)
 unfolding always
 each f t true = both (f true) (f false) .0 t .0
 each f t false = both (f true) (f false) .0 t .1
 
 -- A test that passes at all numbers below n.
-abbrev upTo : (ℕ → Bool) → ℕ → Bool
+abbrev pub upTo : (ℕ → Bool) → ℕ → Bool
 upTo f zero = true
 upTo f (suc n) = f n && upTo f n
 
 -- It passes at each.
-below : (f : ℕ → Bool) (n : ℕ) → T (upTo f n) → (k : ℕ) → k < n → T (f k)
+pub below : (f : ℕ → Bool) (n : ℕ) → T (upTo f n) → (k : ℕ) → k < n → T (f k)
 below f zero t k h = absurd (omega arith)
 below f (suc n) t k h =
     let z = both (f n) (upTo f n) .0 t in
@@ -43,7 +40,7 @@ below f (suc n) t k h =
     ]
 
 -- Truth values that are tested to be the same are.
-same : (a b : Bool) → T (Bool·beq a b) ↔ (a ≡ b)
+pub same : (a b : Bool) → T (Bool·beq a b) ↔ (a ≡ b)
 same true true = (λ t. refl, λ e. tt)
 same true false = (λ t. absurd t, λ e. absurd (true≢false e))
 same false true = (λ t. absurd t, λ e. absurd (false≢true e))
@@ -159,97 +156,6 @@ rule-sum map t absent x e f =
     let h = order (suc map) 8 .0 (both (ltb map 8) (bit 1 map || not (bit 2 map)) .0 t .0) in
     let u = equal s map .0 (given (ruleMap map) (eqb s map) (below ruleSum 8 all-rule-sums map h) t) in
     rw (flag absent (bit 0 map) e, f) at u
-
--- Whether a top is named.
-abbrev pub named : Top → Bool
-named Any = false
-named (Named x) = true
-
--- Whether some mark stands.
-abbrev pub stand : List ℕ → Bool
-stand held = not (allZero held)
-
--- A second map, by which of its fields are present.
-abbrev secondBy : Bool → Bool → Bool → Bool → ℕ
-secondBy ta tb ha hb = cond ta 1 0 + cond tb 2 0 + cond ha 4 0 + cond hb 8 0
-
--- What a top adds, by whether it is named ..
-top-adds : (w : ℕ) (t : Top) → topWeight w t ≡ cond (named t) w 0
-top-adds w Any = refl
-top-adds w (Named x) = refl
-
--- .. and marks, by whether one stands.
-marks-add : (w : ℕ) (none : Bool) → cond none 0 w ≡ cond (not none) w 0
-marks-add w true = refl
-marks-add w false = refl
-
--- So a second map is known by which of its fields are present.
-second-by : (x : Second)
-    → secondMap x ≡ secondBy (named (x .a .top)) (named (x .b .top)) (stand (x .a .held)) (stand (x .b .held))
-unfolding secondMap
-second-by x =
-    rw (
-      top-adds 1 (x .a .top),
-      top-adds 2 (x .b .top),
-      marks-add 4 (allZero (x .a .held)),
-      marks-add 8 (allZero (x .b .held)),
-    )
-
--- The bits of a second map, of which there are four: each stands exactly if its field is present.
-pub record SecondBits (map : ℕ) (x : Second) : Type 0 where
-  pub low : map < 16
-  pub bit0 : bit 0 map ≡ named (x .a .top)
-  pub bit1 : bit 1 map ≡ named (x .b .top)
-  pub bit2 : bit 2 map ≡ stand (x .a .held)
-  pub bit3 : bit 3 map ≡ stand (x .b .held)
-
-secondBits : ℕ → Bool → Bool → Bool → Bool → Bool
-secondBits m ta tb ha hb =
-    ltb m 16 && Bool·beq (bit 0 m) ta && Bool·beq (bit 1 m) tb && Bool·beq (bit 2 m) ha && Bool·beq (bit 3 m) hb
-
-all-second-bits : T (always λ ta. always λ tb. always λ ha. always λ hb. secondBits (secondBy ta tb ha hb) ta tb ha hb)
-unfolding secondBits always
-all-second-bits = tt
-
--- They are the bits of the second map that is written.
-pub second-bits : (x : Second) → SecondBits (secondMap x) x
-unfolding secondBits
-second-bits x =
-    let ta = named (x .a .top) in
-    let tb = named (x .b .top) in
-    let ha = stand (x .a .held) in
-    let hb = stand (x .b .held) in
-    let t : T (secondBits (secondBy ta tb ha hb) ta tb ha hb) = each _ (each _ (each _ (each _ all-second-bits ta) tb) ha) hb in
-    let z = simp (both, same, order) at t in
-    rw (second-by x) (record { low = z .0 .0 .0 .0; bit0 = z .0 .0 .0 .1; bit1 = z .0 .0 .1; bit2 = z .0 .1; bit3 = z .1 })
-
-secondSum : ℕ → Bool
-secondSum map = eqb (secondBy (bit 0 map) (bit 1 map) (bit 2 map) (bit 3 map)) map
-
-all-second-sums : T (upTo secondSum 16)
-unfolding secondSum
-all-second-sums = tt
-
--- A second map is the sum of its bits.
-pub second-sum : {map : ℕ} {x : Second} → SecondBits map x → secondMap x ≡ map
-unfolding secondSum
-second-sum {map} {x} b =
-    let t = equal (secondBy (bit 0 map) (bit 1 map) (bit 2 map) (bit 3 map)) map .0 (below secondSum 16 all-second-sums map (b .low)) in
-    second-by x ∙ rw (b .bit0, b .bit1, b .bit2, b .bit3) at t
-
-targetBits : ℕ → Bool
-targetBits b = Bool·beq (announces b) (bit 7 b) && eqb (stateOf b) (b % 128)
-
-all-target-bits : T (upTo targetBits 256)
-unfolding targetBits
-all-target-bits = tt
-
--- A target byte announces a second map by its bit 7, and its low seven bits are its state.
-pub target-bits : (b : ℕ) → b < 256 → (announces b ≡ bit 7 b) × (stateOf b ≡ b % 128)
-unfolding targetBits
-target-bits b h =
-    let z = both (Bool·beq (announces b) (bit 7 b)) (eqb (stateOf b) (b % 128)) .0 (below targetBits 256 all-target-bits b h) in
-    (same (announces b) (bit 7 b) .0 (z .0), equal (stateOf b) (b % 128) .0 (z .1))
 
 -- Whether a right side has a first and a second symbol.
 abbrev pub hasFirst : Right → Bool

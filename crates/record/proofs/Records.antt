@@ -14,9 +14,9 @@ use Rattle.model.specs.declared.Thread.{Thread}
 use Rattle.model.specs.Bits.{bit}
 use Rattle.model.specs.Results.{refused, accepted}
 use Rattle.model.specs.Rules.{zeroRule}
-use Rattle.model.specs.Valid.{Valid, marksFault, SameThread, Same, Places}
+use Rattle.model.specs.Valid.{Valid, crossFault, SameThread, Same, Places}
 use Rattle.model.proofs.Alike.{same-valid}
-use Rattle.model.proofs.Ranges.{marks-free, valid-fits}
+use Rattle.model.proofs.Ranges.{crossed, valid-fits}
 use Rattle.model.proofs.Results.{apart, undue}
 use Rattle.model.specs.Zero.{Unused}
 use Rattle.record.specs.declared.Reading.{Reading}
@@ -25,7 +25,7 @@ use Rattle.record.specs.Held.{readingOf}
 use Rattle.record.specs.Reader.{Read, announces, parseRules, Head, parseHead, threadFrom, modelOf, parseFront, ended, readOf}
 use Rattle.record.specs.Older.{targetByte}
 use Rattle.record.specs.Written.{ReadsBack}
-use Rattle.writer.specs.Writer.{weightOf, rulesOf, mapOf, secondOf, secondMap, headBytes, recordOf}
+use Rattle.writer.specs.Writer.{weightOf, rulesOf, mapOf, extraIn, secondOf, secondMap, headBytes, recordOf}
 use Rattle.record.proofs.OneField.{parted, carried, value-same}
 use Rattle.record.proofs.Maps.{HeadBits, head-sum}
 use Rattle.record.proofs.ThreadRules.{rules-back, RulesRead, rules-forth, thread-fits, rules-bytes}
@@ -37,11 +37,12 @@ tidy m = modelOf (headOf m) (take (m .a .count) (m .a .rules)) (take (m .b .coun
 
 -- A thread with its unused places zero is the same thread.
 tidy-same : (t : Thread) → length (t .rules) ≡ 64 → t .count ≤ 64
-    → SameThread t (threadFrom (t .first .0) (record { top = t .top; held = t .held }) (take (t .count) (t .rules)))
+    → SameThread t (threadFrom (t .first .0) (extraIn t) (take (t .count) (t .rules)))
 tidy-same t n k =
     let used : List Rule = take (t .count) (t .rules) in
     let size : length used ≡ t .count = length-take-le (t .count) (t .rules) (omega arith) in
     record {
+      symbols = refl;
       first = refl;
       top = refl;
       held = refl;
@@ -81,7 +82,7 @@ front-back m v p rest =
       head-back m f p (rulesOf (m .a) ++ (rulesOf (m .b) ++ rest)),
       rules-back (m .a) (f .a) (p .a) (rulesOf (m .b) ++ rest) (b .bit6),
       rules-back (m .b) (f .b) (p .b) rest (b .bit7),
-      marks-free (tidy m) (t .a .count) (t .b .count) .1 (t .a .free, t .b .free),
+      crossed (tidy m) (t .a .count) (t .b .count) .1 ((t .a .free, t .a .below), (t .b .free, t .b .below)),
     )
 
 -- What reading a record at the front tells.
@@ -104,26 +105,26 @@ same-map h ra rb k b = head-sum (h .map) k b
 padded-size : (rs : List Rule) → length rs ≤ 64 → length (rs ++ replicate (64 - length rs) zeroRule) ≡ 64
 padded-size rs h = simp (length-append, length-replicate) (omega arith)
 
--- A head and rules that were read make a valid model, where no mark is at fault.
+-- A head and rules that were read make a valid model, where nothing is at fault between them.
 parts-valid : {bs m₁ m₂ rest : List ℕ} {h : Head} {ra rb : List Rule} → HeadRead bs h m₁
     → RulesRead (h .g) (bit 6 (h .map)) m₁ ra m₂ → RulesRead (h .g) (bit 7 (h .map)) m₂ rb rest
-    → marksFault (modelOf h ra rb) ≡ 0 → Valid (modelOf h ra rb)
+    → crossFault (modelOf h ra rb) ≡ 0 → Valid (modelOf h ra rb)
 parts-valid {h = h} {ra} {rb} hd a b z =
-    let free = marks-free (modelOf h ra rb) (a .most) (b .most) .0 z in
+    let cross = crossed (modelOf h ra rb) (a .most) (b .most) .0 z in
     valid-fits (modelOf h ra rb) .1
     (record {
       g = hd .g;
       k = hd .k;
       start = hd .start;
       target = hd .target;
-      a = thread-fits (h .g) (h .a) (h .second .a) ra (hd .first) (hd .extraA .top) (a .most) (a .fits) (free .0);
-      b = thread-fits (h .g) (h .b) (h .second .b) rb (hd .second) (hd .extraB .top) (b .most) (b .fits) (free .1);
+      a = thread-fits (h .g) (h .a) (h .second .a) ra (hd .first) (hd .extraA) (a .most) (a .fits) (cross .0);
+      b = thread-fits (h .g) (h .b) (h .second .b) rb (hd .second) (hd .extraB) (b .most) (b .fits) (cross .1);
     })
 
--- Head and rules that were read make the record, where no mark is at fault.
+-- Head and rules that were read make the record, where nothing is at fault between them.
 front-made : {bs m₁ m₂ rest : List ℕ} {h : Head} {ra rb : List Rule} → HeadRead bs h m₁
     → RulesRead (h .g) (bit 6 (h .map)) m₁ ra m₂ → RulesRead (h .g) (bit 7 (h .map)) m₂ rb rest
-    → marksFault (modelOf h ra rb) ≡ 0 → FrontRead bs (modelOf h ra rb) rest
+    → crossFault (modelOf h ra rb) ≡ 0 → FrontRead bs (modelOf h ra rb) rest
 unfolding headOf headWith
 front-made {bs} {m₁} {m₂} {rest} {h} {ra} {rb} hd a b z =
     record {
@@ -150,7 +151,7 @@ front-forth bs e =
     parted (parseHead bs) _ e λ h m₁ b₁ e₁.
     parted (parseRules (bit 6 (h .map)) (h .g) m₁) _ e₁ λ ra m₂ b₂ e₂.
     parted (parseRules (bit 7 (h .map)) (h .g) m₂) _ e₂ λ rb m₃ b₃ e₃.
-    let z = undue (marksFault (modelOf h ra rb)) e₃ in
+    let z = undue (crossFault (modelOf h ra rb)) e₃ in
     carried (FrontRead bs) (z .1)
     (front-made (head-forth bs b₁) (rules-forth (bit 6 (h .map)) (h .g) m₁ b₂) (rules-forth (bit 7 (h .map)) (h .g) m₂ b₃) (z .0))
 

@@ -25,11 +25,11 @@ use Rattle.record.proofs.OneField.{ranged-back, ranged-forth, field-bac
 use Rattle.record.proofs.Maps.{newBits, rule-sum, hasFirst, hasSecond, rule-bits}
 
 -- A symbol both ways.
-symbol-back : (b : ℕ) (rest : List ℕ) → b ≤ 15 → parseSymbol (b ∷ rest) ≡ accepted (b, rest)
-symbol-back b rest h = ranged-back 4 rest zero-le (omega arith)
+symbol-back : (b : ℕ) (rest : List ℕ) → b < 16 → parseSymbol (b ∷ rest) ≡ accepted (b, rest)
+symbol-back b rest h = ranged-back 4 rest zero-le h
 
-symbol-forth : (bs : List ℕ) {b : ℕ} {rest : List ℕ} → parseSymbol bs ≡ accepted (b, rest) → (bs ≡ b ∷ rest) × (b ≤ 15)
-symbol-forth bs e = let r = ranged-forth 4 0 16 bs e in (r .0, omega arith)
+symbol-forth : (bs : List ℕ) {b : ℕ} {rest : List ℕ} → parseSymbol bs ≡ accepted (b, rest) → (bs ≡ b ∷ rest) × (b < 16)
+symbol-forth bs e = let r = ranged-forth 4 0 16 bs e in (r .0, r .2)
 
 -- The new symbols of a rule that are written are read.
 right-back : (x : Right) → RightFits x → (rest : List ℕ) → parseRight (hasFirst x) (hasSecond x) (symbolsOf x ++ rest) ≡ accepted (x, rest)

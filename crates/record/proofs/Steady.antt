@@ -1,5 +1,5 @@
 -- What every part of the reader has in common, proved once for each way parts are put together: it takes at most so many
--- bytes, bytes behind those change nothing, and it refuses by a number from 1 to 5, by 11 or by 13.
+-- bytes, bytes behind those change nothing, and it refuses by a number from 1 to 5, by 11, 13 or 17.
 use mathlib.Core.Bool.{Bool, true, false}
 use mathlib.Core.List.{List, [], _∷_, _++_}
 use mathlib.Core.Path.{_≡_, refl}

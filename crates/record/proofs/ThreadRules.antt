@@ -12,12 +12,13 @@ use Rattle.model.specs.declared.Thread.{Thread}
 use Rattle.model.specs.Order.{keyOf}
 use Rattle.model.specs.Results.{accepted}
 use Rattle.model.specs.Rules.{zeroRule}
-use Rattle.model.specs.Fits.{RuleFits, TopFits, ThreadFits}
-use Rattle.model.proofs.Ranges.{Free}
+use Rattle.model.specs.Fits.{RuleFits, ThreadFits}
+use Rattle.model.proofs.Ranges.{Crossed}
 use Rattle.record.specs.Reader.{parseField, parseRuleList, parseRules, threadFrom}
 use Rattle.writer.specs.Writer.{fieldOf, ruleListOf, rulesOf, Extra}
 use Rattle.record.proofs.OneField.{parted, field-back, field-forth}
 use Rattle.record.proofs.RuleLists.{RulesFit, list-back, list-forth}
+use Rattle.record.proofs.Tops.{ExtraFits}
 
 -- Rules that are in range and ascend one by one do so as a list.
 fit-list : (g least n : ℕ) (l : List Rule) → ((r : ℕ) → r < n → RuleFits g (getD l r zeroRule))
@@ -70,7 +71,7 @@ rules-forth present g bs {rs} {rest} e =
     }
 
 -- Rules in range as a list are in range one by one, whatever follows them, ..
-fit-at : (g least : ℕ) (rs more : List Rule) → RulesFit g least rs → (r : ℕ) → r < length rs
+pub fit-at : (g least : ℕ) (rs more : List Rule) → RulesFit g least rs → (r : ℕ) → r < length rs
     → RuleFits g (getD (rs ++ more) r zeroRule)
 fit-at g least [] more f r h = absurd (omega arith)
 fit-at g least (x ∷ xs) more f zero h = f .0
@@ -84,17 +85,19 @@ order-at g least (x ∷ []) more f r h = absurd (omega arith)
 order-at g least (x ∷ y ∷ ys) more f zero h = f .2 .1
 order-at g least (x ∷ y ∷ ys) more f (suc r) h = order-at g (suc (keyOf x)) (y ∷ ys) more (f .2) r (omega arith)
 
--- A thread that was read is in range, where its marks are on rules of its list.
-pub thread-fits : (g first : ℕ) (x : Extra) (rs : List Rule) → first ≤ 15 → TopFits (x .top) → length rs ≤ 64 → RulesFit g 0 rs
-    → Free (threadFrom first x rs) → ThreadFits g (threadFrom first x rs)
-thread-fits g first x rs h t k f free =
+-- A thread that was read is in range, where its parts ask nothing of each other in vain.
+pub thread-fits : (g first : ℕ) (x : Extra) (rs : List Rule) → first ≤ 15 → ExtraFits x → length rs ≤ 64 → RulesFit g 0 rs
+    → Crossed (threadFrom first x rs) → ThreadFits g (threadFrom first x rs)
+thread-fits g first x rs h t k f c =
     record {
+      symbols = t .symbols;
       first = h;
-      top = t;
+      top = t .top;
       count = k;
       rules = fit-at g 0 rs (replicate (64 - length rs) zeroRule) f;
       order = order-at g 0 rs (replicate (64 - length rs) zeroRule) f;
-      free = free;
+      free = c .0;
+      below = c .1;
     }
 
 -- The bytes of a thread's rules that were read.

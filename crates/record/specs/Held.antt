@@ -69,7 +69,7 @@ marksPartOf (marksPart.Refused n) = refused n
 
 -- What a second map says of a thread ..
 abbrev pub extraOf : ThreadFields → Extra
-extraOf x = record { top = x .top; held = heldOf (x .marks) }
+extraOf x = record { top = x .top; held = heldOf (x .marks); symbols = x .symbols }
 
 -- .. and of both.
 abbrev pub saidOf : SecondFields → Second

@@ -16,7 +16,7 @@ use Rattle.model.specs.Bits.{bit, allZero}
 use Rattle.model.specs.Order.{keyOf}
 use Rattle.model.specs.Results.{Result, refused, accepted, andThen, need, unless}
 use Rattle.model.specs.Rules.{zeroRule}
-use Rattle.model.specs.Valid.{marksFault}
+use Rattle.model.specs.Valid.{crossFault}
 use Rattle.model.specs.Zero.{noMarks, inPlaces}
 use Rattle.writer.specs.Writer.{Extra, Second}
 
@@ -118,16 +118,30 @@ parseMarks false bs = accepted (noMarks, bs)
 parseMarks true bs =
     need 1 (leb 8 (length bs)) (need 5 (not (allZero (take 8 bs))) (accepted (take 8 bs, drop 8 bs)))
 
--- The second map, of bits 0 to 3 alone (3) and not 0 (5), and then its fields in bit order: the tops of A and of B, and their
--- marks. Where it is absent, no field.
-unfoldable pub parseSecond : Bool → List ℕ → Read Second
-parseSecond present bs =
-    andRead (parseField present 3 0 16 0 bs) (λ map rest.
-    andRead (parseTop (bit 0 map) rest) (λ topA rest.
+-- A thread's symbol count: 1 to 16 (3) but not 16 (5) where its bit stands, else 16.
+abbrev pub parseCount : Bool → List ℕ → Read ℕ
+parseCount present bs = parseField present 3 1 17 16 bs
+
+-- The fields that a second map names, in bit order: the tops of A and of B, their marks, and their symbol counts.
+unfoldable pub parseExtras : ℕ → List ℕ → Read Second
+parseExtras map bs =
+    andRead (parseTop (bit 0 map) bs) (λ topA rest.
     andRead (parseTop (bit 1 map) rest) (λ topB rest.
     andRead (parseMarks (bit 2 map) rest) (λ heldA rest.
     andRead (parseMarks (bit 3 map) rest) (λ heldB rest.
-    accepted (record { a = record { top = topA; held = heldA }; b = record { top = topB; held = heldB } }, rest))))))
+    andRead (parseCount (bit 4 map) rest) (λ symbolsA rest.
+    andRead (parseCount (bit 5 map) rest) (λ symbolsB rest.
+    accepted (
+      record {
+        a = record { top = topA; held = heldA; symbols = symbolsA };
+        b = record { top = topB; held = heldB; symbols = symbolsB };
+      },
+      rest,
+    )))))))
+
+-- The second map, of bits 0 to 5 alone (3) and not 0 (5), and then its fields. Where it is absent, no field.
+unfoldable pub parseSecond : Bool → List ℕ → Read Second
+parseSecond present bs = andRead (parseField present 3 0 64 0 bs) (λ map rest. parseExtras map rest)
 
 -- The head fields, and the map, whose last two bits stand for the rule lists.
 pub record Head : Type 0 where
@@ -147,13 +161,16 @@ parseFirsts map g k start target second bs =
     andRead (parseField (bit 5 map) 3 0 16 0 rest) (λ b rest.
     accepted (record { map = map; g = g; k = k; start = start; target = target; second = second; a = a; b = b }, rest)))
 
--- The head after its map, G and K: the two states, what a second map says, and the first symbols.
-abbrev pub parseHeadRest : ℕ → ℕ → ℕ → List ℕ → Read Head
-parseHeadRest map g k bs =
+-- The head after its map, G and K: the two states, what a second map says, as it is read, and the first symbols.
+abbrev pub headRestBy : (Bool → List ℕ → Read Second) → ℕ → ℕ → ℕ → List ℕ → Read Head
+headRestBy readSecond map g k bs =
     andRead (parseField (bit 2 map) 3 0 g 0 bs) (λ start rest.
     andRead (parseTarget g rest) (λ target rest.
-    andRead (parseSecond (announces target) rest) (λ second rest.
+    andRead (readSecond (announces target) rest) (λ second rest.
     parseFirsts map g k start (stateOf target) second rest)))
+
+abbrev pub parseHeadRest : ℕ → ℕ → ℕ → List ℕ → Read Head
+parseHeadRest = headRestBy parseSecond
 
 -- The map, whose bit 3 stands (2), G and K, and then the rest of the head, as it is read.
 abbrev pub headBy : (ℕ → ℕ → ℕ → List ℕ → Read Head) → List ℕ → Read Head
@@ -171,6 +188,7 @@ parseHead bs = headBy parseHeadRest bs
 abbrev pub threadFrom : ℕ → Extra → List Rule → Thread
 threadFrom first x rs =
     record {
+      symbols = x .symbols;
       first = record { 0 = first };
       top = x .top;
       held = x .held;
@@ -196,13 +214,13 @@ modelBy readRules next h bs =
     andRead (readRules (bit 6 (h .map)) (h .g) bs) (λ ra rest.
     andRead (readRules (bit 7 (h .map)) (h .g) rest) (λ rb rest. next (modelOf h ra rb) rest))
 
--- Marks stand on rules of the lists alone (11).
-abbrev pub marksListed : Model → List ℕ → Read Model
-marksListed m bs = unless (marksFault m) (accepted (m, bs))
+-- Marks stand on rules of the lists alone (11), and symbols are below the counts (17).
+abbrev pub crossChecked : Model → List ℕ → Read Model
+crossChecked m bs = unless (crossFault m) (accepted (m, bs))
 
--- The record at the front of a list: the head, then A's rules and B's, and that their marks are on rules of the lists.
+-- The record at the front of a list: the head, then A's rules and B's, and then what the parts ask of each other.
 unfoldable pub parseFront : List ℕ → Read Model
-parseFront bs = andRead (parseHead bs) (modelBy parseRules marksListed)
+parseFront bs = andRead (parseHead bs) (modelBy parseRules crossChecked)
 
 -- Nothing is left after the last field (6).
 abbrev pub ended : Model → List ℕ → Read Model
@@ -213,6 +231,6 @@ ended m (b ∷ rest) = refused 6
 unfoldable pub readOf : List ℕ → Read Model
 readOf bs = andRead (parseFront bs) ended
 
--- The numbers that refuse: those from 1 to `last`, 11 and 13.
+-- The numbers that refuse: those from 1 to `last`, 11, 13 and 17.
 abbrev pub Refuses : ℕ → ℕ → Type 0
-Refuses last n = (1 ≤ n) × (n ≤ 13) × (last < n → 11 ≤ n) × (11 < n → n ≡ 13)
+Refuses last n = (1 ≤ n) × (n ≤ 17) × (last < n → 11 ≤ n) × (11 < n → 13 ≤ n) × (13 < n → n ≡ 17)

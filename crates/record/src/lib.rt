@@ -71,7 +71,7 @@ pub fn write(m: Model, store: &mut [u8]) -> Written
     if fault != 0 {
         return Written::Refused(fault);
     }
-    let mut buffer = [0u8; 668];
+    let mut buffer = [0u8; 670];
     let n = writer::put_record(&mut buffer, m);
     if store.len() < n {
         return Written::Refused(7);
@@ -130,10 +130,11 @@ pub enum MarksPart {
     Refused(u8),
 }
 
-// What the fields of a second map say of a thread: its top, and the marks of its held rules.
+// What the fields of a second map say of a thread: its top, the marks of its held rules, and its symbol count.
 pub struct ThreadFields {
     pub top: Top,
     pub marks: Marks,
+    pub symbols: u8,
 }
 
 // The same of A and of B.

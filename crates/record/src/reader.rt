@@ -21,7 +21,6 @@ use model::Thread;
 ghost use mathlib.Core.Path.{_≡_};
 ghost use Prim.Native.Nat.{_≤_};
 ghost use lib.ListN.{length, drop};
-ghost use Rattle.model.specs.Valid.{marksFault};
 ghost use Rattle.model.specs.Rules.{zeroRule};
 ghost use Rattle.model.specs.Zero.{Padded, zeroModel};
 ghost use Rattle.record.specs.Held.{Reads, extraOf, fieldsOf, headPartOf, frontOf, listed, readingOf};
@@ -51,7 +50,7 @@ pub fn front(bytes: &[u8]) -> Front
         Taken::Refused(n) => return refusal(n),
     };
     let model = model_of(h, list_a, list_b);
-    let fault = marks_fault(model);
+    let fault = model::cross_fault(model);
     if fault != 0 {
         return refusal(fault);
     }
@@ -79,21 +78,6 @@ fn model_of(h: Fields, a: RuleList, b: RuleList) -> Model
     }
 }
 
-// The fault of a model's marks: A's, then B's.
-fn marks_fault(m: Model) -> u8
-    ensures { λ n. ⌜ n ≡ marksFault m ⌝ }
-{
-    let a = m.a;
-    let held_a = a.held;
-    let first = model::mark_fault(held_a, a.count);
-    if first != 0 {
-        return first;
-    }
-    let b = m.b;
-    let held_b = b.held;
-    model::mark_fault(held_b, b.count)
-}
-
 // The zero model, beside a refusal.
 fn refusal(n: u8) -> Front
     ensures { λ r. ⌜ r ≡ record { answer = Taken.Refused n; model = zeroModel } ⌝ }
@@ -114,6 +98,7 @@ fn thread(first: u8, x: ThreadFields, l: RuleList) -> Thread
     let held = array_of(marks);
     let rules = l.rules;
     Thread {
+        symbols: x.symbols,
         first: Symbol(first),
         top,
         held,

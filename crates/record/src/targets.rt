@@ -1,4 +1,5 @@
 // The readers of the target byte, and of the second map that its bit 7 announces.
+use crate::Cursor;
 use crate::Marks;
 use crate::MarksAt;
 use crate::MarksPart;
@@ -18,7 +19,7 @@ ghost use mathlib.Core.Path.{_≡_};
 ghost use Prim.Native.Nat.{_≤_};
 ghost use lib.ListN.{length, drop};
 ghost use Rattle.record.specs.Held.{Reads, partOf, topPartOf, heldOf, marksPartOf, secondPartOf};
-ghost use Rattle.record.specs.Reader.{stateOf, parseTarget, parseTop, parseMarks, parseSecond};
+ghost use Rattle.record.specs.Reader.{stateOf, parseTarget, parseTop, parseMarks, parseExtras, parseSecond};
 
 // The target byte, whose state is below G.
 pub fn read_target(s: &[u8], at: usize, g: u8) -> Part
@@ -41,41 +42,67 @@ pub fn state_of(b: u8) -> u8
     if 128 <= b { b - 128 } else { b }
 }
 
-// The second map and the fields that it names, in bit order; no byte is taken where it is absent.
+// The second map and its fields; no byte is taken where it is absent.
 pub fn read_second(s: &[u8], at: usize, present: bool) -> SecondPart
     requires { ⌜ at ≤ length (now s) ⌝ }
     ensures { λ r. ⌜ Reads (now (s .entry)) (secondPartOf r) (parseSecond present (drop at (now (s .entry)))) ⌝ }
 {
-    let map = match field(s, at, present, 3, 0, 16, 0) {
+    let map = match field(s, at, present, 3, 0, 64, 0) {
         Part::Read(x) => x,
         Part::Refused(n) => return SecondPart::Refused(n),
     };
-    let top_a = match read_top(s, map.at, map.byte % 2 == 1) {
+    read_extras(s, map.at, map.byte)
+}
+
+// The fields that a second map names, in bit order.
+fn read_extras(s: &[u8], at: usize, map: u8) -> SecondPart
+    requires { ⌜ at ≤ length (now s) ⌝ }
+    ensures { λ r. ⌜ Reads (now (s .entry)) (secondPartOf r) (parseExtras map (drop at (now (s .entry)))) ⌝ }
+{
+    let top_a = match read_top(s, at, map % 2 == 1) {
         TopPart::Read(x) => x,
         TopPart::Refused(n) => return SecondPart::Refused(n),
     };
-    let top_b = match read_top(s, top_a.at, map.byte / 2 % 2 == 1) {
+    let top_b = match read_top(s, top_a.at, map / 2 % 2 == 1) {
         TopPart::Read(x) => x,
         TopPart::Refused(n) => return SecondPart::Refused(n),
     };
-    let marks_a = match read_marks(s, top_b.at, map.byte / 4 % 2 == 1) {
+    let marks_a = match read_marks(s, top_b.at, map / 4 % 2 == 1) {
         MarksPart::Read(x) => x,
         MarksPart::Refused(n) => return SecondPart::Refused(n),
     };
-    let marks_b = match read_marks(s, marks_a.at, map.byte / 8 % 2 == 1) {
+    let marks_b = match read_marks(s, marks_a.at, map / 8 % 2 == 1) {
         MarksPart::Read(x) => x,
         MarksPart::Refused(n) => return SecondPart::Refused(n),
     };
-    let top = top_a.top;
-    let marks = marks_a.marks;
-    let a = ThreadFields { top, marks };
-    let top = top_b.top;
-    let marks = marks_b.marks;
-    let b = ThreadFields { top, marks };
+    let count_a = match field(s, marks_b.at, map / 16 % 2 == 1, 3, 1, 17, 16) {
+        Part::Read(x) => x,
+        Part::Refused(n) => return SecondPart::Refused(n),
+    };
+    let count_b = match field(s, count_a.at, map / 32 % 2 == 1, 3, 1, 17, 16) {
+        Part::Read(x) => x,
+        Part::Refused(n) => return SecondPart::Refused(n),
+    };
     SecondPart::Read(SecondAt {
-        second: SecondFields { a, b },
-        at: marks_b.at,
+        second: SecondFields {
+            a: fields_of(top_a, marks_a, count_a),
+            b: fields_of(top_b, marks_b, count_b),
+        },
+        at: count_b.at,
     })
+}
+
+// What was read of one thread.
+fn fields_of(t: TopAt, l: MarksAt, n: Cursor) -> ThreadFields
+    ensures { λ r. ⌜ r ≡ record { top = t .top; marks = l .marks; symbols = n .byte } ⌝ }
+{
+    let top = t.top;
+    let marks = l.marks;
+    ThreadFields {
+        top,
+        marks,
+        symbols: n.byte,
+    }
 }
 
 // The top of a thread: any, where its bit does not stand.

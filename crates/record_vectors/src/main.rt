@@ -100,7 +100,7 @@ fn second_maps() -> Tally {
     t = t.counted(agrees(b"\x38\x81\x03\x05\x0F\x01\x02", 0));
     t = t.counted(agrees(b"\x08\x80", 1));
     t = t.counted(agrees(b"\x08\x80\x00", 5));
-    t = t.counted(agrees(b"\x08\x80\x10", 3));
+    t = t.counted(agrees(b"\x08\x80\x40", 3));
     t = t.counted(agrees(b"\x08\x80\x81\x05", 3));
     t = t.counted(agrees(b"\x08\x84\x00", 3));
     t = t.counted(agrees(b"\x08\x80\x01", 1));
@@ -134,8 +134,9 @@ fn file(name: &[u8], store: &mut [u8]) {
 }
 
 // counts.bin has lists of 0, 64 and 65 rules. held.bin has what document 02 says of held rules: marks for A, for B and for both, and each
-// refusal in its order. order.bin has the records of bindings/cases.txt that are about the order of rules. longest.bin has the longest
-// record, of 668 bytes, and the same with a byte less and with one more.
+// refusal in its order. order.bin has the records of bindings/cases.txt that are about the order of rules, and symbols.bin those that are
+// about symbol counts. longest.bin has the longest record, of 670 bytes, and the same with a byte less, with one more, and with its last
+// symbol at the count.
 fn main() {
     document().report(b"document 01");
     second_maps().report(b"second maps");
@@ -143,6 +144,7 @@ fn main() {
     file(b"counts.bin", &mut store);
     file(b"held.bin", &mut store);
     file(b"order.bin", &mut store);
+    file(b"symbols.bin", &mut store);
     file(b"longest.bin", &mut store);
     file(b"records.bin", &mut store);
 }

@@ -29,14 +29,14 @@ removed-goes symbols h r (One next) f p e =
 removed-goes symbols h r (Two next b) f p e = absurd p
 
 -- Another one stands in its place.
-pub swapped-goes : (symbols : List ℕ) (h : Head) (r : Rule) (next : Head) (a : Symbol) → r .right ≡ Swap a → a .0 ≤ 15
+pub swapped-goes : (symbols : List ℕ) (h : Head) (r : Rule) (next : Head) (a : Symbol) → r .right ≡ Swap a → a .0 < 16
     → next ≡ record { passed = h .passed; ends = h .ends; control = r .after .0; symbol = a .0; under = h .under }
     → Steps symbols h r next (stackOf symbols next)
 swapped-goes symbols h r next a e l p =
     rw p (record { passed = refl; ends = refl; control = refl; symbol = omega arith; under = le-refl (h .under); stack = rw e })
 
 -- Two stand in its place.
-pub pushed-goes : (symbols : List ℕ) (h : Head) (r : Rule) (next : Head) (a b : Symbol) → r .right ≡ Push a b → (a .0 ≤ 15) × (b .0 ≤ 15)
+pub pushed-goes : (symbols : List ℕ) (h : Head) (r : Rule) (next : Head) (a b : Symbol) → r .right ≡ Push a b → (a .0 < 16) × (b .0 < 16)
     → next ≡ record { passed = h .passed; ends = h .ends; control = r .after .0; symbol = a .0; under = h .under }
     → Steps symbols h r next (next .symbol ∷ b .0 ∷ below symbols (next .under)) × (b .0 ≤ 16)
 pushed-goes symbols h r next a b e l p = (

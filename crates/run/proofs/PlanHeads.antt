@@ -43,12 +43,14 @@ first-turn B = omega arith
 pub four-fits : {g : ℕ} {t : Thread} → g ≤ 4 → ThreadFits g t → ThreadFits 4 t
 four-fits {g} four fits =
     record {
+      symbols = fits .symbols;
       first = fits .first;
       top = fits .top;
       count = fits .count;
       rules = λ r h. rule (fits .rules r h);
       order = fits .order;
       free = fits .free;
+      below = fits .below;
     }
   where
     rule : {r : Rule} → RuleFits g r → RuleFits 4 r

@@ -123,21 +123,23 @@ module _ (t : Thread) (top : Top) (N : ℕ) (turnOf : ℕ → ℕ) (ends : ℕ �
     swap-good : (m size : ℕ) → m ≤ 2 → size ≤ 16 * width m → (a : Symbol) → ruleAt t r .right ≡ Swap a
         → (e : Edge) → Row 1 (start N m P₀ Γ₀ 0) rest (start N m H₀ (a .0) 0) size e → Sound e
     swap-good m size h few a eq =
+        let low : a .0 ≤ 15 = omega (arith, symbols (Swap a) eq) in
         by-rule m 0 1 rest (start N m H₀ (a .0) 0) size h (omega arith) few
         (λ x y z k i j p q c γ u s w.
         swap-reach (Moves t turnOf) (Switches ends n) (min (1 + x + y) cap) (omega arith)
         (moves c γ (Swap a) (s .from .0) (w .control) (w .symbol) eq)
-        (q m (after r c) (a .0) u (onward (symbols (Swap a) eq) s) (w .same H₀ (a .0)) j))
+        (q m (after r c) (a .0) u (onward low s) (w .same H₀ (a .0)) j))
 
     -- A push whose first symbol stays.
     above-good : (m size : ℕ) → m ≤ 2 → size ≤ 8 * width m → (a b : Symbol) → ruleAt t r .right ≡ Push a b
         → (e : Edge) → Row 1 (start N m P₀ Γ₀ 4) rest (start N m H₀ (a .0) 4) size e → Sound e
     above-good m size h few a b eq =
+        let low : a .0 ≤ 15 = omega (arith, symbols (Push a b) eq .0) in
         by-rule m 4 1 rest (start N m H₀ (a .0) 4) size h (omega arith) (omega arith)
         (λ x y z k i j p q c γ u s w.
         let stays = stay-end u (w .low) (below-twelve m _ _ _ (w .high) k few) (s .to .0) in
         let end : u ≡ stay (stays .0) (endOf u) = stays .1 in
-        let part = q m (after r c) (a .0) u (onward (symbols (Push a b) eq .0) s) (w .same H₀ (a .0)) j in
+        let part = q m (after r c) (a .0) u (onward low s) (w .same H₀ (a .0)) j in
         subst (λ v. Stretches c γ v (min (1 + x + y) cap)) (sym end)
         (above-reach (Moves t turnOf) (Switches ends n) (min (1 + x + y) cap) (omega arith)
         (moves c γ (Push a b) (s .from .0) (w .control) (w .symbol) eq) (subst (λ v. Stretches (after r c) (a .0) v y) end part)))

@@ -31,7 +31,7 @@ given (b ∷ bytes) = go (parseFront (b ∷ bytes)) refl
     go (result.refused n) e = e
     go (result.accepted (m, rest)) e = e
 
--- A tray is refused by a number from 1 to 5, by 11 or by 13.
+-- A tray is refused by a number from 1 to 5, by 11, 13 or 17.
 pub tray-refusal : (bytes : List ℕ) {n : ℕ} → trayOf bytes ≡ refused n → Refuses 5 n
 tray-refusal bytes e = front-refusal bytes (rw e at (given bytes))
 

@@ -95,7 +95,9 @@ fn by_hand() -> Tally {
         11,
         0,
     ));
-    t.counted(agrees(b"\x48\x00\x02\x00\x10\x00\x00\x08\x00", 13, 0))
+    t = t.counted(agrees(b"\x48\x00\x02\x00\x10\x00\x00\x08\x00", 13, 0));
+    t = t.counted(agrees(b"\x08\x80\x30\x0F\x01\x08\x00", ACCEPTED, 2));
+    t.counted(agrees(b"\x48\x80\x10\x05\x01\x00\x05\x08\x00", 17, 0))
 }
 
 // One case of the file after another: a tray with its length, its answer, and the length of the rest in two bytes.

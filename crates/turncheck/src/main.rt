@@ -10,10 +10,10 @@ enum Input {
     Failed,
 }
 
-// 669 bytes of the input decide the answer: the longest record has 668, and reading stops at the first fault (a law of `record`,
+// 671 bytes of the input decide the answer: the longest record has 670, and reading stops at the first fault (a law of `record`,
 // `decided`).
 fn main() {
-    let mut bytes = [0u8; 669];
+    let mut bytes = [0u8; 671];
     match read_all(&mut bytes) {
         Input::Bytes(n) => print_report(&bytes[..n]),
         Input::Failed => {

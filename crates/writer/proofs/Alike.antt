@@ -47,6 +47,8 @@ same-record {m} {n} s v p q =
       s .b .top,
       s .a .held,
       s .b .held,
+      s .a .symbols,
+      s .b .symbols,
       s .a .first,
       s .b .first,
       s .a .count,

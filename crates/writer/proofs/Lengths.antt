@@ -1,4 +1,4 @@
--- How long the record of a valid model is: at most 668 bytes, and one model has as many.
+-- How long the record of a valid model is: at most 670 bytes, and one model has as many.
 use mathlib.Core.Bool.{Bool, true, false, cond}
 use mathlib.Core.List.{List, [], _∷_}
 use mathlib.Core.Path.{_≡_, refl}
@@ -17,8 +17,8 @@ use Rattle.model.specs.declared.Top.the-variants.{Any, Named}
 use Rattle.model.specs.Bits.{allZero}
 use Rattle.model.specs.Order.{rightKey, keyOf, above}
 use Rattle.model.specs.Results.{firstOf}
-use Rattle.model.specs.Valid.{Valid, faultOf, headFault, rangeFault, topFault, threadFault, rulesFault, ruleFault, rightFault, symbolFault}
-use Rattle.model.specs.Valid.{freeFrom, markFault, marksFault}
+use Rattle.model.specs.Valid.{Valid, faultOf, headFault, rangeFault, fieldsFault, threadFault, rulesFault, ruleFault}
+use Rattle.model.specs.Valid.{rightFault, topFault, symbolFault, freeFrom, markFault, usedFault, symbolsFault, crossFault}
 use Rattle.writer.specs.Writer.{fieldOf, weightOf, symbolsOf, ruleBytes, ruleListOf, rulesOf, mapOf, headBytes, recordOf}
 use Rattle.writer.specs.Writer.{topOf, heldBytes, Second, secondOf, secondMap, secondFields, targetBytes}
 
@@ -68,20 +68,21 @@ held l = go (allZero l)
     go true = omega arith
     go false = simp length-take (omega arith)
 
--- The fields of the second map have at most 18.
-second : (x : Second) → length (secondFields x) ≤ 18
+-- The fields of the second map have at most 20.
+second : (x : Second) → length (secondFields x) ≤ 20
 unfolding secondFields
 second x =
     simp length-append
-    (omega (arith, top (x .a .top), top (x .b .top), held (x .a .held), held (x .b .held)))
+    (omega
+    (arith, top (x .a .top), top (x .b .top), held (x .a .held), held (x .b .held), field 16 (x .a .symbols), field 16 (x .b .symbols)))
 
--- The target, the second map and its fields have at most 20.
-target : (q : ℕ) (x : Second) → length (targetBytes q x) ≤ 20
+-- The target, the second map and its fields have at most 22.
+target : (q : ℕ) (x : Second) → length (targetBytes q x) ≤ 22
 unfolding targetBytes
 target q x = simp length-append (omega (arith, field 0 (secondMap x), second x))
 
--- 26 bytes come before the rules at most.
-head : (m : Model) → length (headBytes m) ≤ 26
+-- 28 bytes come before the rules at most.
+head : (m : Model) → length (headBytes m) ≤ 28
 unfolding headBytes
 head m =
     let fields = target (m .target .0) (secondOf m) in
@@ -89,14 +90,15 @@ head m =
     (omega
     (arith, field 4 (m .g), field 2 (m .k), field 0 (m .start .0), fields, field 0 (m .a .first .0), field 0 (m .b .first .0)))
 
--- The record of a valid model has at most 668 bytes, 26 + 2 · 321.
-pub at-most : (m : Model) → Valid m → length (recordOf m) ≤ 668
+-- The record of a valid model has at most 670 bytes, 28 + 2 · 321.
+pub at-most : (m : Model) → Valid m → length (recordOf m) ≤ 670
 unfolding recordOf
 at-most m h =
     let f = valid-fits m .0 h in
     simp length-append (omega (arith, head m, thread (m .a) (f .a .count), thread (m .b) (f .b .count)))
 
--- Rules that leave nothing to absence, so many from number n on: the new symbols of each are the digits of its number, so they ascend.
+-- Rules that leave nothing to absence, so many from number n on: the new symbols of each are the digits of its number in base 15, so they
+-- ascend.
 long : ℕ → ℕ → List Rule
 long n zero = []
 long n (suc k) =
@@ -104,13 +106,14 @@ long n (suc k) =
       before = record { 0 = 0 };
       symbol = record { 0 = 1 };
       after = record { 0 = 1 };
-      right = Push (record { 0 = n / 16 }) (record { 0 = n % 16 });
+      right = Push (record { 0 = n / 15 }) (record { 0 = n % 15 });
     } ∷ long (suc n) k
 
--- A thread of 64 such rules, all held.
+-- A thread of 64 such rules, all held, and of 15 symbols.
 full : Thread
 full =
     record {
+      symbols = 15;
       first = record { 0 = 1 };
       top = Named (record { 0 = 1 });
       held = replicate 8 255;
@@ -124,9 +127,9 @@ longest = record { g = 3; k = 1; start = record { 0 = 1 }; target = record { 0 =
 
 -- It is valid, and no record is longer than its own.
 pub longest-valid : Valid longest
-unfolding longest full long faultOf firstOf headFault rangeFault topFault threadFault rulesFault above keyOf rightKey ruleFault rightFault symbolFault marksFault markFault freeFrom
+unfolding longest full long faultOf firstOf headFault rangeFault fieldsFault topFault threadFault rulesFault above keyOf rightKey ruleFault rightFault symbolFault crossFault markFault freeFrom symbolsFault usedFault
 longest-valid = refl
 
-pub longest-length : length (recordOf longest) ≡ 668
+pub longest-length : length (recordOf longest) ≡ 670
 unfolding longest full long recordOf mapOf weightOf fieldOf rulesOf ruleListOf ruleBytes headBytes targetBytes secondMap secondFields heldBytes allZero
 longest-length = refl

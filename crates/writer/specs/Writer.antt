@@ -72,29 +72,36 @@ heldBytes held = cond (allZero held) [] (take 8 held)
 abbrev pub heldWeight : ℕ → List ℕ → ℕ
 heldWeight w held = cond (allZero held) 0 w
 
--- What a second map says of a thread: the top that is asked for, and the marks of its held rules.
+-- What a second map says of a thread: the top that is asked for, the marks of its held rules, and its symbol count.
 pub record Extra : Type 0 where
   pub top : Top
   pub held : List ℕ
+  pub symbols : ℕ
 
 -- What it says of A and of B.
 pub record Second : Type 0 where
   pub a : Extra
   pub b : Extra
 
--- What the second map of a model says.
-abbrev pub secondOf : Model → Second
-secondOf m =
-    record { a = record { top = m .a .top; held = m .a .held }; b = record { top = m .b .top; held = m .b .held } }
+-- What the second map of a model says: this of each thread.
+abbrev pub extraIn : Thread → Extra
+extraIn t = record { top = t .top; held = t .held; symbols = t .symbols }
 
--- The second map: bit 0 and bit 1 for the tops of A and of B, bit 2 and bit 3 for their marks.
+abbrev pub secondOf : Model → Second
+secondOf m = record { a = extraIn (m .a); b = extraIn (m .b) }
+
+-- The second map: bit 0 and bit 1 for the tops of A and of B, bit 2 and bit 3 for their marks, bit 4 and bit 5 for their symbol counts, of
+-- which 16 is the default.
 unfoldable pub secondMap : Second → ℕ
 secondMap x =
-    topWeight 1 (x .a .top) + topWeight 2 (x .b .top) + heldWeight 4 (x .a .held) + heldWeight 8 (x .b .held)
+    topWeight 1 (x .a .top) + topWeight 2 (x .b .top) + heldWeight 4 (x .a .held) + heldWeight 8 (x .b .held) +
+    weightOf 4 16 (x .a .symbols) + weightOf 5 16 (x .b .symbols)
 
 -- The fields of the second map, in bit order.
 unfoldable pub secondFields : Second → List ℕ
-secondFields x = topOf (x .a .top) ++ topOf (x .b .top) ++ heldBytes (x .a .held) ++ heldBytes (x .b .held)
+secondFields x =
+    topOf (x .a .top) ++ topOf (x .b .top) ++ heldBytes (x .a .held) ++ heldBytes (x .b .held) ++
+    fieldOf 16 (x .a .symbols) ++ fieldOf 16 (x .b .symbols)
 
 -- The target byte, its bit 7 announcing a second map; then that map and its fields, unless the map is 0.
 unfoldable pub targetBytes : ℕ → Second → List ℕ

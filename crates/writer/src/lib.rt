@@ -53,7 +53,7 @@ fn put_head(s: &mut [u8], m: Model) -> usize
     put_field(s, at, 0, m.b.first.0)
 }
 
-// The target byte, and where a top is named or a rule is held the second map and its fields, which bit 7 announces.
+// The target byte, and the second map with its fields, which bit 7 announces, unless it would say nothing.
 fn put_target(s: &mut [u8], at: usize, m: Model) -> usize
     requires { ⌜ SmallModel m × (at + length (targetBytes (m .target .0) (secondOf m)) ≤ length (now s)) ⌝ }
     ensures { λ r. ⌜ Put (now (s .entry)) (now (s .exit)) at r (targetBytes (m .target .0) (secondOf m)) ⌝ }
@@ -66,7 +66,7 @@ fn put_target(s: &mut [u8], at: usize, m: Model) -> usize
 
 // The second map: the weights of its fields that are present.
 fn second_map(m: Model) -> u8
-    ensures { λ r. ⌜ (r ≡ secondMap (secondOf m)) × (r ≤ 15) ⌝ }
+    ensures { λ r. ⌜ (r ≡ secondMap (secondOf m)) × (r ≤ 63) ⌝ }
 {
     let a = m.a;
     let top_a = a.top;
@@ -74,7 +74,12 @@ fn second_map(m: Model) -> u8
     let b = m.b;
     let top_b = b.top;
     let held_b = b.held;
-    top_weight(1, top_a) + top_weight(2, top_b) + held_weight(4, held_a) + held_weight(8, held_b)
+    top_weight(1, top_a)
+        + top_weight(2, top_b)
+        + held_weight(4, held_a)
+        + held_weight(8, held_b)
+        + weight(16, 16, a.symbols)
+        + weight(32, 16, b.symbols)
 }
 
 // The fields of the second map, in bit order.
@@ -91,7 +96,9 @@ fn put_second(s: &mut [u8], at: usize, m: Model) -> usize
     let mut next = put_top(s, at, top_a);
     next = put_top(s, next, top_b);
     next = put_held(s, next, held_a);
-    put_held(s, next, held_b)
+    next = put_held(s, next, held_b);
+    next = put_field(s, next, 16, a.symbols);
+    put_field(s, next, 16, b.symbols)
 }
 
 // What a top adds to the second map: the weight of its bit, where it is named.

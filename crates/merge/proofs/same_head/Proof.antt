@@ -22,11 +22,11 @@ returns-4 : tie.Need-returns-4
 unfolding sameHead
 returns-4 c = search (eq-eqb, ne-eqb, needs)
 
-same-ends-requires : tie.Need-same-ends-requires
-same-ends-requires c κs = search needs
+same-fields-requires : tie.Need-same-fields-requires
+same-fields-requires c κs = search needs
 
-same-ends-requires-2 : tie.Need-same-ends-requires-2
-same-ends-requires-2 c κs = search needs
+same-fields-requires-2 : tie.Need-same-fields-requires-2
+same-fields-requires-2 c κs = search needs
 
 returns-5 : tie.Need-returns-5
 returns-5 c =
@@ -37,10 +37,10 @@ returns-5 c =
     let at = first .before .before .before .args in
     rw (
       threads-decide (at .m) (at .n) (first .if1 .left) (second .if2 .left) (third .if3 .left) (fourth .if4 .left),
-      ← c .before .before .same-ends .ensures,
+      ← c .before .before .same-fields .ensures,
       c .before .if5 .taken,
     )
-    (c .same-ends2 .ensures)
+    (c .same-fields2 .ensures)
 
 returns-6 : tie.Need-returns-6
 returns-6 c =
@@ -51,7 +51,7 @@ returns-6 c =
     let at = first .before .before .before .args in
     rw (
       threads-decide (at .m) (at .n) (first .if1 .left) (second .if2 .left) (third .if3 .left) (fourth .if4 .left),
-      ← c .before .same-ends .ensures,
+      ← c .before .same-fields .ensures,
       c .if5 .left,
     )
 
@@ -63,7 +63,7 @@ same-head-spec =
     returns-2
     returns-3
     returns-4
-    same-ends-requires
-    same-ends-requires-2
+    same-fields-requires
+    same-fields-requires-2
     returns-5
     returns-6)

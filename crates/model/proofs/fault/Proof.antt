@@ -1,6 +1,6 @@
 -- `fault` meets its contract: the parts are checked in order, and the first fault of a part is the answer.
 use borrow.Author.Needs.{needs}
-use Rattle.model.specs.Valid.{faultOf, marksFault}
+use Rattle.model.specs.Valid.{faultOf}
 use Rattle.model.proofs.Checks.{stops, passes, closes}
 use Rattle.model.proofs.fault.Statement.{statement}
 use Rattle.model.proofs.fault.Tie as tie
@@ -19,8 +19,7 @@ thread-fault-requires c κs = search needs
 returns-2 : tie.Need-returns-2
 unfolding faultOf
 returns-2 c =
-    passes _ (c .before .before .before .before .head-fault .ensures) (c .before .before .before .if1 .left)
-    (stops _ (c .before .thread-fault .ensures) (c .if2 .taken))
+    passes _ (c .before .before .before .before .head-fault .ensures) (c .before .before .before .if1 .left) (stops _ (c .before .thread-fault .ensures) (c .if2 .taken))
 
 thread-fault-requires-2 : tie.Need-thread-fault-requires-2
 thread-fault-requires-2 c κs = search needs
@@ -28,31 +27,20 @@ thread-fault-requires-2 c κs = search needs
 returns-3 : tie.Need-returns-3
 unfolding faultOf
 returns-3 c =
-    passes _ (c .before .before .before .before .before .before .before .head-fault .ensures) (c .before .before .before .before .before .before .if1 .left)
-    (passes _ (c .before .before .before .before .thread-fault .ensures) (c .before .before .before .if2 .left)
-    (stops _ (c .before .thread-fault2 .ensures) (c .if3 .taken)))
+    let c4 = c .before .before .before .before in
+    passes _ (c4 .before .before .before .head-fault .ensures) (c4 .before .before .if1 .left)
+    (passes _ (c4 .thread-fault .ensures) (c .before .before .before .if2 .left) (stops _ (c .before .thread-fault2 .ensures) (c .if3 .taken)))
 
-mark-fault-requires : tie.Need-mark-fault-requires
-mark-fault-requires c κs = search needs
+cross-fault-requires : tie.Need-cross-fault-requires
+cross-fault-requires c κs = search needs
 
 returns-4 : tie.Need-returns-4
-unfolding faultOf marksFault
+unfolding faultOf
 returns-4 c =
-    passes _ (c .before .before .before .before .before .before .before .before .before .before .head-fault .ensures) (c .before .before .before .before .before .before .before .before .before .if1 .left)
-    (passes _ (c .before .before .before .before .before .before .before .thread-fault .ensures) (c .before .before .before .before .before .before .if2 .left)
-    (passes _ (c .before .before .before .before .thread-fault2 .ensures) (c .before .before .before .if3 .left)
-    (closes (stops _ (c .before .mark-fault .ensures) (c .if4 .taken)))))
-
-mark-fault-requires-2 : tie.Need-mark-fault-requires-2
-mark-fault-requires-2 c κs = search needs
-
-returns-5 : tie.Need-returns-5
-unfolding faultOf marksFault
-returns-5 c =
-    passes _ (c .before .before .before .before .before .before .before .before .before .before .before .before .head-fault .ensures) (c .before .before .before .before .before .before .before .before .before .before .before .if1 .left)
-    (passes _ (c .before .before .before .before .before .before .before .before .before .thread-fault .ensures) (c .before .before .before .before .before .before .before .before .if2 .left)
-    (passes _ (c .before .before .before .before .before .before .thread-fault2 .ensures) (c .before .before .before .before .before .if3 .left)
-    (closes (passes _ (c .before .before .before .mark-fault .ensures) (c .before .before .if4 .left) (closes (c .mark-fault2 .ensures))))))
+    let c5 = c .before .before .before .before .before in
+    passes _ (c5 .before .before .before .head-fault .ensures) (c5 .before .before .if1 .left)
+    (passes _ (c5 .thread-fault .ensures) (c .before .before .before .before .if2 .left)
+    (passes _ (c .before .before .thread-fault2 .ensures) (c .before .if3 .left) (closes (c .cross-fault .ensures))))
 
 pub fault-spec : {M : Type 1} → statement M
 fault-spec =
@@ -64,7 +52,5 @@ fault-spec =
     returns-2
     thread-fault-requires-2
     returns-3
-    mark-fault-requires
-    returns-4
-    mark-fault-requires-2
-    returns-5)
+    cross-fault-requires
+    returns-4)

@@ -1,6 +1,6 @@
--- `second_map` meets its contract: each call has one field's weight, and the four add up to 15 at most.
+-- `second_map` meets its contract: each call has one field's weight, and the six add up to 63 at most.
 use borrow.Author.Needs.{needs}
-use Rattle.writer.specs.Writer.{secondMap}
+use Rattle.writer.specs.Writer.{weightOf, secondMap}
 use Rattle.writer.proofs.second_map.Statement.{statement}
 use Rattle.writer.proofs.second_map.Tie as tie
 
@@ -25,8 +25,20 @@ held-weight-requires-2 c κs = search needs
 add-result-3 : tie.Need-add-result-3
 add-result-3 c = search needs
 
+weight-requires : tie.Need-weight-requires
+weight-requires c κs = search needs
+
+add-result-4 : tie.Need-add-result-4
+add-result-4 c = search needs
+
+weight-requires-2 : tie.Need-weight-requires-2
+weight-requires-2 c κs = search needs
+
+add-result-5 : tie.Need-add-result-5
+add-result-5 c = search needs
+
 returns : tie.Need-returns
-unfolding secondMap
+unfolding secondMap weightOf
 returns c = search needs
 
 pub second-map-spec : {M : Type 1} → statement M
@@ -40,4 +52,8 @@ second-map-spec =
     add-result-2
     held-weight-requires-2
     add-result-3
+    weight-requires
+    add-result-4
+    weight-requires-2
+    add-result-5
     returns)

@@ -19,7 +19,9 @@ cast-if1-2 : tie.Need-cast-if1-2
 cast-if1-2 c = search needs
 
 returns : tie.Need-returns
-returns c = (adds-elsewhere (c .if1 .taken), (search needs, search needs))
+returns c =
+    let p = c .before .before .before .before .before .before .before .before .before .pre in
+    (adds-elsewhere (c .if1 .taken), (p .1 .1 .1 .1, p .1 .0 .6))
 
 mul-x : tie.Need-mul-x
 mul-x c =
@@ -50,7 +52,7 @@ returns-2 c =
     let c13 = c4 .before .before .before .before .before .before .before .before .before in
     let p = c13 .pre in (
       adds-nothing (p .0) (p .1 .1 .0) (p .1 .1 .1 .0) (p .1 .0 .0) (c4 .if1 .left) (λ e. c .if2 .taken (c .before .sum .ensures ∙ e)),
-      (search needs, search needs),
+      (p .1 .1 .1 .1, p .1 .0 .6),
     )
 
 lower-requires : tie.Need-lower-requires

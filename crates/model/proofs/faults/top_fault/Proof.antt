@@ -1,6 +1,5 @@
--- `top_fault` meets its contract: a top that is named is tested as the definition does.
+-- `top_fault` meets its contract: a top that is named is checked as a symbol, and any other has no fault.
 use borrow.Author.Needs.{needs}
-use borrow.Author.Tests.{le-leb, lt-leb}
 use Rattle.model.specs.Valid.{topFault}
 use Rattle.model.proofs.faults.top_fault.Statement.{statement}
 use Rattle.model.proofs.faults.top_fault.Tie as tie
@@ -11,17 +10,17 @@ enum-told c = search needs
 enum-known-t : tie.Need-enum-known-t
 enum-known-t c = search needs
 
+symbol-fault-requires : tie.Need-symbol-fault-requires
+symbol-fault-requires c κs = search needs
+
 returns : tie.Need-returns
 unfolding topFault
-returns c = rw (c .before .before .before .t .given .1, lt-leb _ _ (c .if1 .taken))
+returns c = search needs
 
 returns-2 : tie.Need-returns-2
 unfolding topFault
-returns-2 c = search needs
-
-returns-3 : tie.Need-returns-3
-unfolding topFault
-returns-3 c = rw (c .before .before .before .t .given .1, le-leb _ _ (c .if1 .left))
+returns-2 c = rw (c .before .before .t .given .1) (c .symbol-fault .ensures)
 
 pub top-fault-spec : {M : Type 1} → statement M
-top-fault-spec = tie.close (tie.spec enum-told enum-known-t returns returns-2 returns-3)
+top-fault-spec =
+    tie.close (tie.spec enum-told enum-known-t symbol-fault-requires returns returns-2)

@@ -1,11 +1,12 @@
--- `front` meets its contract: the head, then the rules of each thread from the bytes that the part before them left, and then the marks.
+-- `front` meets its contract: the head, then the rules of each thread from the bytes that the part before them left, and then
+-- what the parts ask of each other.
 use mathlib.Core.Path.{_≡_, sym, _∙_}
 use Prim.Native.Nat.{_+_, _≤_}
 use native.Mathlib.Omega.{arith}
 use lib.ListN.{length, drop}
 use lib.Seq.{drop-drop}
 use Rattle.model.proofs.Results.{due}
-use Rattle.record.specs.Reader.{marksListed, parseFront}
+use Rattle.record.specs.Reader.{crossChecked, parseFront}
 use Rattle.record.specs.Held.{headPartOf}
 use Rattle.record.proofs.Parts.{got, ends}
 use Rattle.record.proofs.Fronts.{refused-front, read-front, list-got, list-ends}
@@ -139,7 +140,7 @@ returns-3 c =
 model-of-requires : tie.Need-model-of-requires
 model-of-requires c κs = search needs
 
--- What was read so far: with no fault of its marks, the model is the answer.
+-- What was read so far: with no fault between its parts, the model is the answer.
 so-far : (c : tie.After-model-of)
     → let lb = c .before in
     let la = lb .before .before .before .before .before .before in
@@ -147,7 +148,7 @@ so-far : (c : tie.After-model-of)
     let s = h .before .before .before .before .before .args .bytes .now in
     let m = c .model-of .result in
     let n = h .before .x .given .0 .0 .at + la .before .answer-a .given .0 .0 + lb .before .answer-b .given .0 .0 in
-    parseFront s ≡ marksListed m (drop n s)
+    parseFront s ≡ crossChecked m (drop n s)
 unfolding parseFront
 so-far c =
     let lb = c .before in
@@ -161,8 +162,8 @@ so-far c =
     let rules-b = list-got s _ (a-end la) (b .result) _ _ (b .ensures .0) (lb .before .answer-b .given .1) in
     rw (c .model-of .ensures, head, rules-a, drop-drop, rules-b, drop-drop)
 
-marks-fault-requires : tie.Need-marks-fault-requires
-marks-fault-requires c κs = search needs
+cross-fault-requires : tie.Need-cross-fault-requires
+cross-fault-requires c κs = search needs
 
 refusal-requires-4 : tie.Need-refusal-requires-4
 refusal-requires-4 c κs = search needs
@@ -171,7 +172,7 @@ returns-4 : tie.Need-returns-4
 returns-4 c =
     let fault = c .before .before in
     refused-front (c .refusal4 .ensures)
-    (so-far (fault .before) ∙ rw (← fault .marks-fault .ensures) (sym (due _ (c .before .if1 .taken))))
+    (so-far (fault .before) ∙ rw (← fault .cross-fault .ensures) (sym (due _ (c .before .if1 .taken))))
 
 add-t22 : tie.Need-add-t22
 add-t22 c =
@@ -185,7 +186,7 @@ returns-5 : tie.Need-returns-5
 returns-5 c =
     let fault = c .before in
     let model = fault .before in
-    read-front (b-end (model .before)) (so-far model ∙ rw (← fault .marks-fault .ensures, c .if1 .left))
+    read-front (b-end (model .before)) (so-far model ∙ rw (← fault .cross-fault .ensures, c .if1 .left))
 
 pub front-spec : {M : Type 1} → statement M
 front-spec =
@@ -214,7 +215,7 @@ front-spec =
     refusal-requires-3
     returns-3
     model-of-requires
-    marks-fault-requires
+    cross-fault-requires
     refusal-requires-4
     returns-4
     add-t22

@@ -1,4 +1,5 @@
 -- `top_edges` meets its contract: where no top is named there is no edge.
+use native.Mathlib.Omega.{arith}
 use borrow.Author.Needs.{needs}
 use Rattle.summary.proofs.Relaxing.{unchanged}
 use Rattle.summary.proofs.ends.top_edges.Statement.{statement}
@@ -13,7 +14,8 @@ enum-known-top c = search needs
 named-edges-requires : tie.Need-named-edges-requires
 named-edges-requires c κs =
     let pre = c .before .before .before .before .before .pre in
-    ((pre .0 .0, pre .0 .1, pre .0 .2, rw (c .before .before .top .given .1) at (pre .0 .3)), pre .1)
+    let named = rw (c .before .before .top .given .1) at (pre .0 .3) in
+    ((pre .0 .0, pre .0 .1, pre .0 .2, omega (arith, named)), pre .1)
 
 returns : tie.Need-returns
 returns c = rw (c .enum-told .given .1) (unchanged _)

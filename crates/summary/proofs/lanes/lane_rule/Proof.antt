@@ -32,7 +32,7 @@ long-row-requires : tie.Need-long-row-requires
 long-row-requires c κs =
     let pre = c .before .before .before .before .before .before .before .before .before .pre in
     let right = rw (c .before .before .before .before .before .before .right .given .1) at (pre .0 .6) in
-    let fits = swap-row (pre .1) (pre .0 .0) (pre .0 .2) (pre .0 .1) (pre .0 .3) (pre .0 .4) (pre .0 .5) right (c .before .before .before .lane-cell .ensures) (c .before .lane-cell2 .ensures) in
+    let fits = swap-row (pre .1) (pre .0 .0) (pre .0 .2) (pre .0 .1) (pre .0 .3) (pre .0 .4) (pre .0 .5) (omega (arith, right)) (c .before .before .before .lane-cell .ensures) (c .before .lane-cell2 .ensures) in
     (fits .0, rows-in (pre .1) (fits .1))
 
 enum-known-right-2 : tie.Need-enum-known-right-2
@@ -67,7 +67,7 @@ long-row-requires-2 c κs =
     let pre = c .before .before .before .before .before .before .before .before .before .before .before .before .before .pre in
     let right = rw (c .before .before .before .before .before .before .before .before .before .before .right2 .given .1) at (pre .0 .6) in
     let pushes = c .before .before .before .before .before .before .lane-pushes .ensures .0 in
-    let fits = above-row pushes (pre .0 .0) (pre .0 .2) (pre .0 .1) (pre .0 .3) (pre .0 .4) (pre .0 .5) (right .0) (c .before .before .lane-cell3 .ensures) (rw (c .before .before .before .before .before .before .before .before .push-of .ensures) at (c .before .lane-cell4 .ensures)) in
+    let fits = above-row pushes (pre .0 .0) (pre .0 .2) (pre .0 .1) (pre .0 .3) (pre .0 .4) (pre .0 .5) (omega (arith, right .0)) (c .before .before .lane-cell3 .ensures) (rw (c .before .before .before .before .before .before .before .before .push-of .ensures) at (c .before .lane-cell4 .ensures)) in
     (fits .0, rows-in (held pushes (pre .1)) (fits .1))
 
 add-result : tie.Need-add-result

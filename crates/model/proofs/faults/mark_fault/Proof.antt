@@ -3,8 +3,8 @@ use mathlib.Core.Path.{_≡_, refl, sym, ap, _∙_}
 use Prim.Native.Nat.{_-_}
 use borrow.Author.Needs.{needs}
 use Rattle.model.proofs.Marks.{freeOn, found, onward, past, all-free}
-use Rattle.model.proofs.mark_fault.Statement.{statement}
-use Rattle.model.proofs.mark_fault.Tie as tie
+use Rattle.model.proofs.faults.mark_fault.Statement.{statement}
+use Rattle.model.proofs.faults.mark_fault.Tie as tie
 use Rattle.model.specs.Results.{refuse}
 use Rattle.model.specs.Valid.{markFault}
 
