@@ -1,4 +1,4 @@
--- The best line's steps are the least of all runs that reach the target: such a run goes along a full line that ends in the
+-- The fewest steps over the lines are the least of all runs that reach the target: such a run goes along a full line that ends in the
 -- target, its steps are both threads' views of that line, and two views of one line join to a run along it.
 use mathlib.Core.List.{List}
 use mathlib.Core.Path.{_≡_, refl, sym, ap, subst, _∙_}
@@ -23,7 +23,6 @@ use Rattle.costs.specs.Cost.{TargetCosts}
 use Rattle.draw.proofs.Full.{last-digits}
 use Rattle.draw.proofs.Marks.{line-cost}
 use Rattle.costs.proofs.Views.{under-views, joined-under}
-use Rattle.judge.specs.declared.Choice.{Choice}
 use Rattle.judge.specs.Best.{Open, Best}
 use Rattle.judge.specs.Least.{AlongLine, AlongBelow}
 use Rattle.model.specs.Schedules.{mostSteps}
@@ -91,17 +90,17 @@ module _ {m : Model} where
           let j = line-cost m B (m .b .top) b (f .k .0) (costs .1) v low .least (w .b) in
           (i .0, j .0, omega (arith, i .1, j .1, w .steps))
 
-      -- The steps of the best line are the least of all runs that reach the target.
-      pub reaching : {c : Choice} → Best (m .g) (m .target .0) (m .g ^ (2 * m .k)) a b c → Least (Reaches m) (c .steps)
-      reaching {c} best = record { some = some; least = λ {ss} r. least r }
+      -- The fewest steps over the lines are the least of all runs that reach the target.
+      pub reaching : {n : ℕ} → Best (m .g) (m .target .0) (m .g ^ (2 * m .k)) a b n → Least (Reaches m) n
+      reaching {n} best = record { some = some; least = λ {ss} r. least r }
         where
-          some : c .steps ≤ cap → (ss : List Step) × Reaches m ss × (capped (length ss) ≡ c .steps)
+          some : n ≤ cap → (ss : List Step) × Reaches m ss × (capped (length ss) ≡ n)
           some h =
               let s = best .some h in
-              let r = costs-reach (s .0) in
-              (r .0, r .1, r .2 ∙ s .1)
+              let r = costs-reach (s .1) in
+              (r .0, r .1, r .2 ∙ s .2)
 
-          least : {ss : List Step} → Reaches m ss → (c .steps ≤ cap) × (c .steps ≤ length ss)
+          least : {ss : List Step} → Reaches m ss → (n ≤ cap) × (n ≤ length ss)
           least r =
               let w = reaches-along r in
               let i = costs-least (w .low) (w .run) in

@@ -30,7 +30,6 @@ use Rattle.replay.proofs.Accepts.{accepts}
 use Rattle.depths.specs.Heights.{Legal}
 use Rattle.depths.proofs.Climbing.{legal}
 use Rattle.witness.specs.Chosen.{Chosen}
-use Rattle.judge.specs.declared.Choice.{Choice}
 use Rattle.judge.specs.declared.Judgement.the-variants.{Found}
 use Rattle.judge.specs.Answer.{refusalOf, Answers, Witness}
 use Rattle.judge.specs.Best.{Best}

@@ -10,6 +10,7 @@ use Rattle.model.specs.Lines.{digits}
 use Rattle.model.specs.Runs.{EndsUnder}
 use Rattle.model.specs.Schedules.{stepsOf, Stored}
 use Rattle.model.specs.Walk.{Step}
+use Rattle.run.specs.Levels.{Decides}
 
 -- The schedules along the full line whose value is v, to the tops that are named.
 abbrev pub AlongLine : Model → ℕ → List Step → Type 0
@@ -36,5 +37,4 @@ Adds m n v kept new before after =
 
 -- Whether the schedule of n steps at the front of a store stands before the one at the front of another.
 abbrev pub Compared : List ℕ → List ℕ → ℕ → Bool → Type 0
-Compared fresh kept n true = Before (stepsOf (take (2 * n) fresh)) (stepsOf (take (2 * n) kept))
-Compared fresh kept n false = Before (stepsOf (take (2 * n) fresh)) (stepsOf (take (2 * n) kept)) → ⊥
+Compared fresh kept n r = Decides r (Before (stepsOf (take (2 * n) fresh)) (stepsOf (take (2 * n) kept)))

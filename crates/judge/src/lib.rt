@@ -36,12 +36,6 @@ pub enum Judgement {
     Refused(u8),
 }
 
-// A full line, by its value, and the least steps of both threads along it, capped; or UNREACHED where there is no line.
-pub struct Choice {
-    pub line: usize,
-    pub steps: u16,
-}
-
 // Whether runs of at most K rounds reach the target. Fills the line store, and writes the least of the shortest schedules where it is
 // Found.
 pub fn judge(m: Model, lines: &mut [u8], schedule: &mut [u8]) -> Judgement
@@ -192,22 +186,22 @@ fn search(m: Model, a: &[u16], b: &[u16], schedule: &mut [u8]) -> Judgement
     told(m, best, a, b, schedule)
 }
 
-// The verdict that the best line stands for, and the least schedule where it is short enough. The depths are read off what was written.
-fn told(m: Model, best: Choice, a: &[u16], b: &[u16], schedule: &mut [u8]) -> Judgement
+// The verdict that the fewest steps stand for, and the least schedule where they are few enough. The depths are read off what was written.
+fn told(m: Model, best: u16, a: &[u16], b: &[u16], schedule: &mut [u8]) -> Judgement
     requires { ⌜ Fits m ⌝ ∗ ⌜ (fullLines ≤ length (now a)) × (fullLines ≤ length (now b)) × (mostBytes ≤ length (now schedule)) ⌝
         ∗ ⌜ TargetCosts m (now a) (now b) ⌝ ∗ ⌜ Best (m .g) (m .target .0) (m .g ^ (2 * m .k)) (now a) (now b) best ⌝ }
     ensures answer { λ r. ⌜ Answers m 0 r ⌝ }
     ensures witness { λ r. ⌜ LeavesSchedule m r (now (schedule .entry)) (now (schedule .exit)) ⌝ }
 {
-    if CAP < best.steps {
+    if CAP < best {
         return Judgement::Clear;
     }
-    if best.steps == CAP {
+    if best == CAP {
         return Judgement::Long;
     }
-    let count = best.steps as usize;
+    let count = best as usize;
     write_least(m, count, a, b, schedule);
-    let steps = best.steps as u64;
+    let steps = best as u64;
     let end = 2 * count;
     Judgement::Found(steps, depths(m, &schedule[..end]))
 }

@@ -1,4 +1,4 @@
--- `choose` meets its contract. The invariant: the choice is the best of the lines below v.
+-- `choose` meets its contract. The invariant: the steps are the fewest over the lines below v.
 use mathlib.Core.Path.{_≡_}
 use Prim.Native.Nat.{_-_, _*_, _^_, _≤_}
 use native.Mathlib.Nat.{le-antisymm}
@@ -23,7 +23,7 @@ power-requires : tie.Need-power-requires Inv-loop μ-loop
 power-requires c κs = search needs
 
 loop-holds : tie.Need-loop-holds Inv-loop μ-loop
-loop-holds c = (search needs, search needs, search needs, best-none 0)
+loop-holds c = (search needs, search needs, search needs, best-none)
 
 with-line-requires : tie.Need-with-line-requires Inv-loop μ-loop
 with-line-requires c κs = search needs

@@ -1,6 +1,6 @@
--- `with_line` meets its contract: each way out is one law of the best line so far.
+-- `with_line` meets its contract: each way out is one law of the fewest steps so far.
 use borrow.Author.Needs.{needs}
-use Rattle.judge.proofs.Choices.{best-passed, best-kept, best-taken}
+use Rattle.judge.proofs.Choices.{best-passed, best-joined}
 use Rattle.judge.proofs.choose.with_line.Statement.{statement}
 use Rattle.judge.proofs.choose.with_line.Tie as tie
 
@@ -27,14 +27,8 @@ joined-requires c κs = search needs
 
 returns-2 : tie.Need-returns-2
 returns-2 c =
-    let call = c .before .before in
-    let test = call .before .before .before in
-    best-taken (call .joined .ensures) (test .before .before .before .pre .1) (test .if1 .left) (c .if2 .taken)
-
-returns-3 : tie.Need-returns-3
-returns-3 c =
-    let call = c .before .before in
-    best-kept (call .joined .ensures) (call .before .before .before .before .before .before .pre .1) (c .if2 .left)
+    let test = c .before .before .before in
+    best-joined (test .if1 .left) (c .joined .ensures) (test .before .before .before .pre .1)
 
 pub with-line-spec : {M : Type 1} → statement M
 with-line-spec =
@@ -47,5 +41,4 @@ with-line-spec =
     mul-joined-2
     shared-slice-read-joined-2
     joined-requires
-    returns-2
-    returns-3)
+    returns-2)
