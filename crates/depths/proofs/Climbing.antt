@@ -19,7 +19,7 @@ use Rattle.model.specs.Fits.{Fits}
 use Rattle.model.specs.Results.{accepted}
 use Rattle.model.specs.Rules.{ruleAt, put}
 use Rattle.model.specs.Schedules.{stepsOf, stepAt, stepsFrom}
-use Rattle.model.specs.Walk.{other, ownerOf, threadOf, stackOf, Config, Step, startOf, stepFrom, walk}
+use Rattle.model.specs.Walk.{other, ownerOf, threadOf, Config, Step, startOf, stepFrom, walk}
 use Rattle.model.proofs.Inside.{applies-iff, fits-of}
 use Rattle.model.proofs.Results.{through}
 use Rattle.model.proofs.Steps.{Stepped, stepped}

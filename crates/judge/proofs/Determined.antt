@@ -13,7 +13,7 @@ use Rattle.model.specs.declared.Model.{Model}
 use Rattle.model.specs.Bits.{Bytes}
 use Rattle.model.specs.Depths.{depthsOf}
 use Rattle.model.specs.Schedules.{bytesOf, Stored}
-use Rattle.model.specs.Verdict.{clear, long, found}
+use Rattle.model.specs.Verdict.{found}
 use Rattle.model.proofs.Firsts.{first-once}
 use Rattle.model.proofs.Verdicts.{one-verdict}
 use Rattle.draw.proofs.Determined.{table-determined}

@@ -1,40 +1,31 @@
 -- The schedule that was written reaches the target, so it is legal, its depths are those of its steps, and replay accepts it.
 use mathlib.Core.Bool.{true, _&&_}
 use mathlib.Core.List.{List}
-use mathlib.Core.Path.{_≡_, sym, _∙_}
-use Prim.Native.Nat.{ℕ, _+_, _*_, _^_, _≤_, _<_}
+use mathlib.Core.Path.{_≡_, sym}
+use Prim.Native.Nat.{ℕ, _*_, _≤_}
 use native.Mathlib.Omega.{arith}
 use lib.Dec.{leb, leb→le}
-use lib.ListN.{length, take, getD}
+use lib.ListN.{length, take}
 use Rattle.model.specs.declared.Depths.{Depths}
 use Rattle.model.specs.declared.Model.{Model}
 use Rattle.model.specs.Depths.{depthsOf}
 use Rattle.model.specs.First.{LeastSchedule}
 use Rattle.model.specs.Fits.{Fits}
-use Rattle.model.specs.Lines.{digits}
-use Rattle.model.specs.Runs.{Reaches, EndsUnder}
 use Rattle.model.specs.Schedules.{stepsOf, Stored, mostSteps, mostBytes}
 use Rattle.model.specs.Tables.{tableFits}
 use Rattle.model.specs.Valid.{Valid}
 use Rattle.model.specs.Walk.{atTarget}
-use Rattle.model.specs.declared.ThreadId.the-variants.{A, B}
 use Rattle.model.proofs.Granted.{granted}
 use Rattle.model.proofs.Stores.{stored-front, stored-steps}
 use Rattle.model.proofs.Tests.{both, passed}
-use Rattle.costs.specs.Cost.{TargetCosts}
-use Rattle.costs.proofs.Digits.{power-small}
-use Rattle.draw.proofs.Marks.{line-cost}
 use Rattle.replay.specs.declared.Replayed.the-variants.{Accepted}
 use Rattle.replay.specs.Replay.{replayOf}
 use Rattle.replay.proofs.Accepts.{accepts}
 use Rattle.depths.specs.Heights.{Legal}
 use Rattle.depths.proofs.Climbing.{legal}
-use Rattle.witness.specs.Chosen.{Chosen}
 use Rattle.judge.specs.declared.Judgement.the-variants.{Found}
 use Rattle.judge.specs.Answer.{refusalOf, Answers, Witness}
-use Rattle.judge.specs.Best.{Best}
-use Rattle.costs.specs.Lanes.{fullLines}
-use Rattle.judge.proofs.Reaching.{target-met, run-reaches}
+use Rattle.judge.proofs.Reaching.{target-met}
 
 -- What stands in a store with room for it is legal, and its depths are those of its steps.
 module _ {m : Model} {n : ℕ} {old new : List ℕ} (s : Stored (LeastSchedule m n) n 0 old new) (room : 2 * n ≤ length old) where

@@ -2,7 +2,7 @@
 -- least each of them, and one of them.
 use mathlib.Core.List.{List, [], _∷_}
 use mathlib.Core.Path.{_≡_, refl, _∙_}
-use Prim.Native.Nat.{ℕ, _≤_, max}
+use Prim.Native.Nat.{_≤_, max}
 use native.Mathlib.Decide.{decLe}
 use native.Mathlib.Omega.{arith}
 use Rattle.model.specs.declared.Model.{Model}

@@ -1,15 +1,13 @@
 -- The order of schedules is a strict order, and of two of one length one stands before the other unless they are equal. So at most
--- one schedule of a kind is the first of its length, and its bytes in a store are given.
+-- one schedule of a kind is the first of its length.
 use mathlib.Core.List.{List, [], _∷_}
 use mathlib.Core.Logic.{_⊎_, inl, inr, ⊎-elim}
 use mathlib.Core.Path.{_≡_, refl, sym, ap, _∙_}
-use Prim.Native.Nat.{ℕ, _<_}
+use Prim.Native.Nat.{ℕ}
 use native.Mathlib.Decide.{decLt}
 use native.Mathlib.Omega.{arith}
 use lib.ListN.{length}
-use lib.Seq.{sets}
 use Rattle.model.specs.First.{Sooner, Before, First}
-use Rattle.model.specs.Schedules.{bytesOf, Stored}
 use Rattle.model.specs.Walk.{Step}
 
 -- No step comes before itself.
@@ -94,11 +92,6 @@ module _ {Run : List Step → Type 0} {n : ℕ} where
   first-once {ss} {ts} p q =
       ⊎-elim (λ b. absurd (q .first ss (p .run) (p .count) b)) (⊎-elim (λ e. e) (λ b. absurd (p .first ts (q .run) (q .count) b)))
       (before-or ss ts (p .count ∙ sym (q .count)))
-
-  -- So the bytes of a store that holds it are given.
-  pub stored-once : {at : ℕ} {old new other : List ℕ} → Stored (First Run n) n at old new → Stored (First Run n) n at old other
-      → new ≡ other
-  stored-once {at} {old} p q = p .shown ∙ (ap (λ ss. sets old at (bytesOf ss)) (first-once (p .run) (q .run)) ∙ sym (q .shown))
 
   -- The first of a kind is the first of another kind with the same schedules.
   pub first-as : {Other : List Step → Type 0} {ss : List Step} → ((us : List Step) → Run us → Other us)

@@ -19,9 +19,9 @@ use Rattle.model.proofs.Tests.{order}
 use Rattle.record.specs.Reader.{parseByte, parseRanged, parseField, announces, stateOf, parseTarget, parseTop, parseMarks, parseCount, parseExtras, parseSecond}
 use Rattle.writer.specs.Writer.{fieldOf, weightOf, topOf, heldBytes, Extra, Second, secondMap, secondFields, targetBytes}
 use Rattle.record.proofs.SecondMaps.{named, second-bits, second-sum}
-use Rattle.record.proofs.HeldMarks.{marks-back, MarksRead, marks-forth}
+use Rattle.record.proofs.HeldMarks.{marks-back, marks-forth}
 use Rattle.record.proofs.OneField.{parted, carried, byte-forth}
-use Rattle.record.proofs.OneField.{ranged-back, ranged-forth, field-back, FieldRead, field-forth}
+use Rattle.record.proofs.OneField.{ranged-back, ranged-forth, field-back, field-forth}
 
 -- The byte of a state below 128 and a second map is read as both.
 pub flagged : (q map : ℕ) → q < 128

@@ -17,9 +17,9 @@ use Rattle.model.specs.Rules.{zeroRule}
 use Rattle.model.specs.Valid.{markFault, symbolsFault, crossFault}
 use Rattle.model.proofs.Ranges.{symbols}
 use Rattle.model.proofs.Results.{checked}
-use Rattle.record.specs.Older.{uncountedExtras, uncountedSecond, marksFault, marksListed, uncountedFront, targetByte, Uncounted}
+use Rattle.record.specs.Older.{uncountedExtras, uncountedSecond, marksFault, uncountedFront, targetByte, Uncounted}
 use Rattle.record.specs.Reader.{Read, andRead, parseByte, parseRanged, parseField, parseRules, announces, parseTarget, parseTop, parseMarks}
-use Rattle.record.specs.Reader.{parseExtras, parseSecond, Head, headRestBy, headBy, parseHead, threadFrom, modelOf, modelBy, crossChecked, parseFront}
+use Rattle.record.specs.Reader.{parseExtras, parseSecond, Head, headRestBy, headBy, parseHead, threadFrom, modelOf, parseFront}
 use Rattle.writer.specs.Writer.{Extra, Second}
 use Rattle.record.proofs.Heads.{target-place, target-first, HeadRead, head-forth}
 use Rattle.record.proofs.SecondMaps.{low-map}

@@ -1,12 +1,12 @@
 -- One verdict is true of a model, and its text is fixed: the marked lines are, and so is the least schedule. So the text of a record is, and
 -- every byte of the store.
 use mathlib.Core.List.{List, _++_}
-use mathlib.Core.Path.{_≡_, refl, sym, ap, subst, _∙_}
+use mathlib.Core.Path.{_≡_, sym, ap, subst, _∙_}
 use Prim.Native.Nat.{ℕ}
 use native.Mathlib.Omega.{arith}
 use contract.Lifetimes.{Lfts}
 use denote.Ref.{RefT, now, at-last}
-use lib.ListN.{length, drop}
+use lib.ListN.{length}
 use Rattle.model.specs.declared.Model.{Model}
 use Rattle.model.specs.Depths.{depthsOf}
 use Rattle.model.specs.Results.{refused, accepted}

@@ -1,6 +1,6 @@
 -- What is left after a step, by the right side of its rule: the new symbols come on top of the levels, and where there is none the
 -- highest level's symbol is on top.
-use mathlib.Core.List.{List, [], _∷_}
+use mathlib.Core.List.{List, _∷_}
 use mathlib.Core.Path.{_≡_, refl}
 use Prim.Native.Nat.{ℕ, zero, suc, _-_, _≤_, _<_}
 use native.Mathlib.Nat.{le-refl}

@@ -3,14 +3,14 @@
 use mathlib.Core.List.{List, [], _∷_}
 use mathlib.Core.Logic.{⊎-elim}
 use mathlib.Core.Path.{_≡_, refl, sym, ap, subst, _∙_}
-use Prim.Native.Nat.{ℕ, suc, _+_, _-_, _*_, _≤_, _<_}
+use Prim.Native.Nat.{ℕ, suc, _-_, _≤_, _<_}
 use native.Mathlib.Omega.{arith}
 use lib.ListN.{length}
 use Rattle.model.specs.declared.Right.{Right}
 use Rattle.model.specs.declared.ThreadId.{ThreadId}
 use Rattle.model.specs.declared.ThreadId.the-variants.{A, B}
 use Rattle.model.specs.First.{Sooner, Before, First}
-use Rattle.model.specs.Rules.{put, ruleAt, heldAt}
+use Rattle.model.specs.Rules.{put, ruleAt}
 use Rattle.model.specs.Schedules.{mostSteps}
 use Rattle.model.specs.Walk.{Step}
 use Rattle.model.proofs.Firsts.{before-cons}
@@ -20,7 +20,6 @@ use Rattle.summary.specs.Control.{Control}
 use Rattle.summary.specs.Stretch.{Path}
 use Rattle.summary.proofs.Numbers.{control-eq}
 use Rattle.run.specs.Exits.{Togo, Setting, Runs}
-use Rattle.run.specs.Plan.{endsIn}
 use Rattle.run.proofs.Togos.{M, W}
 
 -- A thread's own turns ascend.

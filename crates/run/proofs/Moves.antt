@@ -1,7 +1,7 @@
 -- The rules of a plan are the moves of its thread, a tight one leaves one step fewer to the end, and each first step of a shortest run is
 -- tight.
 use mathlib.Core.List.{List, _∷_}
-use mathlib.Core.Path.{_≡_, refl, sym, ap, _∙_}
+use mathlib.Core.Path.{_≡_, refl, sym, ap}
 use Prim.Native.Nat.{ℕ, suc, _+_, _-_, _*_, _%_, _≤_, _<_}
 use native.Mathlib.Omega.{arith}
 use lib.ListN.{length, getD}
@@ -16,7 +16,7 @@ use Rattle.model.specs.Walk.{Step}
 use Rattle.model.proofs.Inside.{applies-iff}
 use Rattle.costs.specs.Ends.{turnOf}
 use Rattle.summary.specs.Control.{Control, numbered}
-use Rattle.summary.proofs.Numbers.{number-at, numbered-is, numbered-in}
+use Rattle.summary.proofs.Numbers.{numbered-is, numbered-in}
 use Rattle.summary.proofs.Ranging.{Sym}
 use Rattle.summary.proofs.Tables.{Symbols}
 use Rattle.run.specs.declared.head.Head.{Head}

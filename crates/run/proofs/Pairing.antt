@@ -1,6 +1,6 @@
 -- A symbol put onto the levels: its own level is known, since it is read off the one below, and those below stay.
 use mathlib.Core.List.{List, _∷_}
-use mathlib.Core.Path.{_≡_, refl, ap, subst, sym, _∙_}
+use mathlib.Core.Path.{_≡_, refl, _∙_}
 use Prim.Native.Nat.{ℕ, zero, suc, _+_, _*_, _%_, _≤_, _<_}
 use native.Mathlib.Decide.{ℕ-discrete}
 use native.Mathlib.Numerals.{add-one}
@@ -10,7 +10,7 @@ use lib.Seq.{getD-set-same, getD-set-other}
 use Rattle.summary.specs.Control.{Control}
 use Rattle.run.specs.declared.head.Head.{Head}
 use Rattle.run.specs.Exits.{place, Togo, Setting, Runs}
-use Rattle.run.specs.Levels.{below, levelAt, from, stackOf, overLevel, Known, Ready, SymbolsFit, Buffers, levelsSize}
+use Rattle.run.specs.Levels.{below, levelAt, stackOf, overLevel, Known, Ready, SymbolsFit, Buffers, levelsSize}
 use Rattle.run.specs.Plan.{controlsIn}
 use Rattle.run.proofs.Togos.{In, eight, place-low, level}
 

@@ -1,9 +1,8 @@
 -- One thread's steps along a line: its plan, its exits and its first head are a setting of the writers, whose runs are those along the
 -- line.
 use mathlib.Core.List.{List, [], _∷_}
-use mathlib.Core.Path.{_≡_, refl, sym, ap, subst, _∙_}
+use mathlib.Core.Path.{_≡_, refl, sym, ap, _∙_}
 use Prim.Native.Nat.{ℕ, zero, suc, _+_, _*_, _≤_, _<_}
-use native.Mathlib.Nat.{le-refl}
 use native.Mathlib.Omega.{arith}
 use lib.ListN.{length, getD, replicate, length-replicate}
 use Rattle.model.specs.declared.Thread.{Thread}
@@ -28,7 +27,7 @@ use Rattle.run.specs.declared.steps.Start.{Start}
 use Rattle.run.specs.Chosen.{Prepared, Starts}
 use Rattle.run.specs.Exits.{place, exitAt, Togo, Setting, Runs}
 use Rattle.run.specs.Filled.{Filled}
-use Rattle.run.specs.Levels.{levelsSize, below, levelAt, from, stackOf, Ready, HeadFits, SymbolsFit, Buffers}
+use Rattle.run.specs.Levels.{levelsSize, below, levelAt, from, stackOf, Ready, HeadFits, Buffers}
 use Rattle.run.specs.Plan.{statesIn, controlsIn, endsIn}
 use Rattle.run.proofs.Filled.{filled-gone, filled-stays, filled-none}
 use Rattle.run.proofs.Togos.{In, bare, place-low}

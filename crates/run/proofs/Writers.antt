@@ -1,7 +1,7 @@
 -- What the writers store is the first of the shortest runs: each case of the code is one step of the greedy choice, and the bytes of a
 -- step come before those of the rest.
 use mathlib.Core.List.{List, [], _∷_}
-use mathlib.Core.Path.{_≡_, refl, sym, ap, subst, _∙_}
+use mathlib.Core.Path.{_≡_, refl, sym, ap, _∙_}
 use Prim.Native.Nat.{ℕ, suc, _+_, _-_, _*_, _≤_, _<_}
 use native.Mathlib.Numerals.{add-one}
 use native.Mathlib.Omega.{arith}
@@ -16,7 +16,7 @@ use Rattle.summary.specs.Control.{Control}
 use Rattle.summary.proofs.Numbers.{number-at, numbered-is, rules-in}
 use Rattle.run.specs.declared.head.Head.{Head}
 use Rattle.run.specs.Exits.{place, Togo, Setting, Runs}
-use Rattle.run.specs.Levels.{below, from, stackOf, enteredAt, Steps, Tight, Known, Ready, HeadFits}
+use Rattle.run.specs.Levels.{below, from, stackOf, enteredAt, Steps, Tight, Ready, HeadFits}
 use Rattle.run.specs.Plan.{controlsIn, rulesIn, turnIn, endsIn, ruleIn, InRange}
 use Rattle.run.proofs.Greedy.{first-step, turn-end, first-turn}
 use Rattle.run.proofs.Moves.{after-known, head-in, stepBy, next, tight-move, move-tight}

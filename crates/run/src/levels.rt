@@ -4,7 +4,7 @@ ghost use mathlib.Core.Path.{_≡_};
 ghost use Prim.Native.Nat.{ℕ, _+_, _*_, _%_, _≤_, _<_, min};
 ghost use lib.ListN.{length, getD};
 ghost use Rattle.model.specs.Fits.{RightFits};
-ghost use Rattle.run.specs.Exits.{rowOf, exitAt, leastOver};
+ghost use Rattle.run.specs.Exits.{exitAt, leastOver};
 ghost use Rattle.run.specs.Levels.{levelsSize, levelAt, overLevel, afterStep};
 
 // How many cells the exits have: a row of 25 for each of 24 places and 17 symbols.

@@ -7,7 +7,6 @@ use crate::plan::PLAN_SIZE;
 use crate::plan::byte;
 use crate::plan::rule_of;
 use model::Rule;
-ghost use mathlib.Core.Path.{_≡_};
 ghost use Prim.Native.Nat.{ℕ, _≤_, _<_};
 ghost use Rattle.model.specs.Fits.{RightFits};
 ghost use Rattle.run.specs.Levels.{Tight, HeadFits, Decides};

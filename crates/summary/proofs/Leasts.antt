@@ -1,9 +1,7 @@
--- Least numbers of steps: runs of two kinds that have the same steps have the same, and there is but one that is reached.
+-- Least numbers of steps: runs of two kinds that have the same steps have the same.
 use mathlib.Core.List.{List}
-use mathlib.Core.Path.{_≡_}
-use Prim.Native.Nat.{ℕ, _≤_}
-use native.Mathlib.Omega.{arith}
-use Rattle.summary.specs.Table.{cap, Least}
+use Prim.Native.Nat.{ℕ}
+use Rattle.summary.specs.Table.{Least}
 
 module _ {S : Type 0} {P : List S → Type 0} where
   -- The same for another kind of runs with the same steps.
@@ -14,12 +12,3 @@ module _ {S : Type 0} {P : List S → Type 0} where
         some = λ h. let r = p .some h in (r .0, f (r .0) (r .1), r .2);
         least = λ {ss} q. p .least (g ss q);
       }
-
-  -- Two of the same runs are equal.
-  pub least-once : {x y : ℕ} → Least P x → Least P y → x ≤ cap → y ≡ x
-  least-once p q h =
-      let u = p .some h in
-      let l = q .least (u .1) in
-      let v = q .some (l .0) in
-      let k = p .least (v .1) in
-      omega (arith, u .2, l .1, v .2, k .1)

@@ -8,7 +8,6 @@ use crate::cells::second_of;
 use crate::edges::long_row;
 use crate::push_of;
 use model::Right;
-ghost use mathlib.Core.Path.{_≡_};
 ghost use Prim.Native.Nat.{_+_, _*_, _≤_, _<_};
 ghost use lib.ListN.{length};
 ghost use Rattle.model.specs.Fits.{RightFits};

@@ -10,7 +10,6 @@ use crate::edges::long_row;
 use crate::edges::row;
 use model::Symbol;
 use model::Top;
-ghost use mathlib.Core.Path.{_≡_};
 ghost use Prim.Native.Nat.{_+_, _*_, _≤_, _<_};
 ghost use lib.ListN.{length};
 ghost use Rattle.model.specs.Fits.{TopFits};
