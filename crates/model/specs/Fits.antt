@@ -23,10 +23,11 @@ abbrev pub TopBelow : ℕ → Top → Type 0
 TopBelow limit Any = Unit {0}
 TopBelow limit (Named s) = s .0 < limit
 
--- Each of them is a symbol, so at most 15.
+-- Those of a right side are at most 15 ..
 abbrev pub RightFits : Right → Type 0
 RightFits x = RightBelow 16 x
 
+-- .. and so is a top.
 abbrev pub TopFits : Top → Type 0
 TopFits x = TopBelow 16 x
 

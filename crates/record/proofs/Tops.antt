@@ -16,7 +16,8 @@ use Rattle.model.specs.Fits.{TopFits}
 use Rattle.model.specs.Results.{accepted}
 use Rattle.model.proofs.Results.{checked}
 use Rattle.model.proofs.Tests.{order}
-use Rattle.record.specs.Reader.{parseByte, parseRanged, parseField, announces, stateOf, parseTarget, parseTop, parseMarks, parseCount, parseExtras, parseSecond}
+use Rattle.record.specs.Reader.{parseByte, parseRanged, parseField, announces, stateOf, parseTarget}
+use Rattle.record.specs.Reader.{parseTop, parseMarks, parseCount, parseExtras, parseSecond}
 use Rattle.writer.specs.Writer.{fieldOf, weightOf, topOf, heldBytes, Extra, Second, secondMap, secondFields, targetBytes}
 use Rattle.record.proofs.SecondMaps.{named, second-bits, second-sum}
 use Rattle.record.proofs.HeldMarks.{marks-back, marks-forth}

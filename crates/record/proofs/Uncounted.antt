@@ -18,8 +18,8 @@ use Rattle.model.specs.Valid.{markFault, symbolsFault, crossFault}
 use Rattle.model.proofs.Ranges.{symbols}
 use Rattle.model.proofs.Results.{checked}
 use Rattle.record.specs.Older.{uncountedExtras, uncountedSecond, marksFault, uncountedFront, targetByte, Uncounted}
-use Rattle.record.specs.Reader.{Read, andRead, parseByte, parseRanged, parseField, parseRules, announces, parseTarget, parseTop, parseMarks}
-use Rattle.record.specs.Reader.{parseExtras, parseSecond, Head, headRestBy, headBy, parseHead, threadFrom, modelOf, parseFront}
+use Rattle.record.specs.Reader.{Read, andRead, parseByte, parseRanged, parseField, parseRules}
+use Rattle.record.specs.Reader.{announces, parseTarget, parseTop, parseMarks, parseExtras, parseSecond, Head, headRestBy, headBy, parseHead, threadFrom, modelOf, parseFront}
 use Rattle.writer.specs.Writer.{Extra, Second}
 use Rattle.record.proofs.Heads.{target-place, target-first, HeadRead, head-forth}
 use Rattle.record.proofs.SecondMaps.{low-map}
@@ -74,7 +74,9 @@ head-alike bs u =
     let fs = field-forth (bit 2 map) 3 0 g 0 m₃ zero-le (fg .least) e₄ in
     let left = target-forth g m₄ e₅ .0 in
     let low : announces target ≡ true → getD m₅ 0 0 < 16 = λ a. elim u [
-      | inl h ↦ let first : targetByte bs ≡ target = rw left at (target-first (byte-forth bs e₁) fg fk fs) in absurd (true≢false (sym a ∙ lt-leb 128 target (omega arith)))
+      | inl h ↦
+          let first : targetByte bs ≡ target = rw left at (target-first (byte-forth bs e₁) fg fk fs) in
+          absurd (true≢false (sym a ∙ lt-leb 128 target (omega arith)))
       | inr h ↦ rw left at (rw (target-place (byte-forth bs e₁) fg fk fs 1) at h)
     ] in
     rw (second-alike (announces target) m₅ low))

@@ -65,10 +65,11 @@ secondByte bs = getD bs (targetPlace bs + 1) 0
 abbrev pub Uncounted : List ℕ → Type 0
 Uncounted bs = (targetByte bs < 128) ⊎ (secondByte bs < 16)
 
--- What no second map says: any top, no mark, and 16 symbols.
+-- What no second map says of a thread: any top, no mark, and 16 symbols ..
 abbrev pub noExtra : Extra
 noExtra = record { top = Any; held = noMarks; symbols = 16 }
 
+-- .. and of both.
 abbrev pub noSecond : Second
 noSecond = record { a = noExtra; b = noExtra }
 

@@ -169,6 +169,7 @@ headRestBy readSecond map g k bs =
     andRead (readSecond (announces target) rest) (λ second rest.
     parseFirsts map g k start (stateOf target) second rest)))
 
+-- The same with a second map as it is read now.
 abbrev pub parseHeadRest : ℕ → ℕ → ℕ → List ℕ → Read Head
 parseHeadRest = headRestBy parseSecond
 

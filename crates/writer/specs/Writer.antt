@@ -83,10 +83,11 @@ pub record Second : Type 0 where
   pub a : Extra
   pub b : Extra
 
--- What the second map of a model says: this of each thread.
+-- What a second map says of a thread of a model ..
 abbrev pub extraIn : Thread → Extra
 extraIn t = record { top = t .top; held = t .held; symbols = t .symbols }
 
+-- .. and of both.
 abbrev pub secondOf : Model → Second
 secondOf m = record { a = extraIn (m .a); b = extraIn (m .b) }
 

@@ -19,7 +19,8 @@ mark-fault-requires-2 c κs = search needs
 returns-2 : tie.Need-returns-2
 unfolding crossFault
 returns-2 c =
-    passes _ (c .before .before .before .before .before .mark-fault .ensures) (c .before .before .before .before .if1 .left) (stops _ (c .before .mark-fault2 .ensures) (c .if2 .taken))
+    let c4 = c .before .before .before .before in
+    passes _ (c4 .before .mark-fault .ensures) (c4 .if1 .left) (stops _ (c .before .mark-fault2 .ensures) (c .if2 .taken))
 
 symbols-fault-requires : tie.Need-symbols-fault-requires
 symbols-fault-requires c κs = search needs

@@ -19,7 +19,8 @@ thread-fault-requires c κs = search needs
 returns-2 : tie.Need-returns-2
 unfolding faultOf
 returns-2 c =
-    passes _ (c .before .before .before .before .head-fault .ensures) (c .before .before .before .if1 .left) (stops _ (c .before .thread-fault .ensures) (c .if2 .taken))
+    let c3 = c .before .before .before in
+    passes _ (c3 .before .head-fault .ensures) (c3 .if1 .left) (stops _ (c .before .thread-fault .ensures) (c .if2 .taken))
 
 thread-fault-requires-2 : tie.Need-thread-fault-requires-2
 thread-fault-requires-2 c κs = search needs

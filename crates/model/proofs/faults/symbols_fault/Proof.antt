@@ -21,7 +21,8 @@ top-fault-requires c κs = search needs
 returns-2 : tie.Need-returns-2
 unfolding symbolsFault
 returns-2 c =
-    passes _ (c .before .before .before .symbol-fault .ensures) (c .before .before .if1 .left) (stops _ (c .before .top-fault .ensures) (c .if2 .taken))
+    let c2 = c .before .before in
+    passes _ (c2 .before .symbol-fault .ensures) (c2 .if1 .left) (stops _ (c .before .top-fault .ensures) (c .if2 .taken))
 
 used-fault-requires : tie.Need-used-fault-requires
 used-fault-requires c κs =
