@@ -18,7 +18,7 @@ use Rattle.model.specs.Results.{refused, accepted, firstOf}
 use Rattle.model.specs.Rules.{applies}
 use Rattle.model.specs.Schedules.{stepsOf, mostSteps}
 use Rattle.model.specs.Valid.{Valid, symbolFault, topFault, rightFault, rangeFault, fieldsFault, headFault, ruleFault, rulesFault, threadFault}
-use Rattle.model.specs.Valid.{freeFrom, markFault, usedFault, symbolsFault, crossFault, faultOf}
+use Rattle.model.specs.Valid.{freeFrom, markFault, marksFault, usedFault, symbolsFault, crossFault, faultOf}
 use Rattle.model.specs.Verdict.{found, Judged}
 use Rattle.model.specs.Walk.{walk, stepFrom, fire, turnFits, turnFree}
 use Rattle.model.proofs.Ranges.{valid-fits}
@@ -149,7 +149,7 @@ unfolding holds
 claimed c t = come (c .bytes) (readOf (c .bytes)) refl (c .answer) t
 
 all-hold : T (every (λ i. holds) cases)
-unfolding cases holds comes judges readOf parseFront parseHead parseByte parseRanged parseField parseRight parseRule parseRuleList parseRules parseTarget parseTop parseMarks parseExtras parseSecond allZero explored grow closed next avoids delays absent followed bitRight bitsRight drawn finds powers digits applies replayOf stepsOf sizeFits walk stepFrom fire turnFits turnFree depthFrom faultOf headFault rangeFault fieldsFault topFault threadFault rulesFault above keyOf rightKey ruleFault rightFault symbolFault crossFault markFault freeFrom symbolsFault usedFault firstOf
+unfolding cases holds comes judges readOf parseFront parseHead parseByte parseRanged parseField parseRight parseRule parseRuleList parseRules parseTarget parseTop parseMarks parseExtras parseSecond allZero explored grow closed next avoids delays absent followed bitRight bitsRight drawn finds powers digits applies replayOf stepsOf sizeFits walk stepFrom fire turnFits turnFree depthFrom faultOf headFault rangeFault fieldsFault topFault threadFault rulesFault above keyOf rightKey ruleFault rightFault symbolFault crossFault marksFault markFault freeFrom symbolsFault usedFault firstOf
 all-hold = tt
 
 -- Every case of the table has its claims.

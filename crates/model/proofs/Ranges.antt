@@ -23,7 +23,7 @@ use Rattle.model.specs.Rules.{ruleAt, heldAt}
 use Rattle.model.proofs.Marks.{free}
 use Rattle.model.proofs.Tests.{order, each-from, tests}
 use Rattle.model.specs.Valid.{symbolFault, topFault, rightFault, rangeFault, fieldsFault, headFault, ruleFault, rulesFault, threadFault}
-use Rattle.model.specs.Valid.{freeFrom, markFault, usedFault, symbolsFault, crossFault, faultOf, Valid}
+use Rattle.model.specs.Valid.{freeFrom, markFault, marksFault, usedFault, symbolsFault, crossFault, faultOf, Valid}
 
 -- No fault of checks in order is no fault of the first and none of the others.
 pub none : (n : ℕ) (ns : List ℕ) → (firstOf (n ∷ ns) ≡ 0) ↔ ((n ≡ 0) × (firstOf ns ≡ 0))
@@ -160,14 +160,14 @@ Crossed t = Free t × SymbolsBelow (t .symbols) t
 
 -- The same of both threads, where no list is too long.
 pub crossed : (m : Model) → m .a .count ≤ 64 → m .b .count ≤ 64 → (crossFault m ≡ 0) ↔ (Crossed (m .a) × Crossed (m .b))
-unfolding crossFault firstOf
+unfolding crossFault marksFault firstOf
 crossed m h k =
     let a = marks (m .a) h in
     let b = marks (m .b) k in
     let c = symbols (m .a) in
     let d = symbols (m .b) in (
-      λ e. let z = simp none at e in ((a .0 (z .0), c .0 (z .1 .1 .0)), (b .0 (z .1 .0), d .0 (z .1 .1 .1 .0))),
-      λ f. simp none (a .1 (f .0 .0), (b .1 (f .1 .0), (c .1 (f .0 .1), (d .1 (f .1 .1), refl)))),
+      λ e. let z = simp none at e in ((a .0 (z .0 .0), c .0 (z .1 .0)), (b .0 (z .0 .1 .0), d .0 (z .1 .1 .0))),
+      λ f. simp none ((a .1 (f .0 .0), (b .1 (f .1 .0), refl)), (c .1 (f .0 .1), (d .1 (f .1 .1), refl))),
     )
 
 -- The head fields of a thread in range.

@@ -16,7 +16,7 @@ use Rattle.model.specs.declared.Top.{Top}
 use Rattle.model.specs.declared.Top.the-variants.{Any, Named}
 use Rattle.model.specs.Results.{firstOf}
 use Rattle.model.specs.Rules.{ruleAt, zeroRule}
-use Rattle.model.specs.Valid.{symbolFault, topFault, rightFault, freeFrom, markFault, usedFault, symbolsFault, crossFault}
+use Rattle.model.specs.Valid.{symbolFault, topFault, rightFault, freeFrom, markFault, marksFault, usedFault, symbolsFault, crossFault}
 use Rattle.model.proofs.Checks.{stops, passes, closes, of-first, of-none, of-test}
 use Rattle.model.proofs.Ranges.{used}
 
@@ -95,7 +95,7 @@ module _ (P : ℕ → Type 0) (none : P 0) where
   of-marks p t = of-test P none p (freeFrom (t .held) (t .count) (64 - t .count))
 
   pub of-cross : P 11 → P 17 → (m : Model) → P (crossFault m)
-  unfolding crossFault
+  unfolding crossFault marksFault
   of-cross p q m =
-      of-first P _ (of-marks p (m .a))
-      (of-first P _ (of-marks p (m .b)) (of-first P _ (of-symbols q (m .a)) (of-first P _ (of-symbols q (m .b)) (of-none P none))))
+      of-first P _ (of-first P _ (of-marks p (m .a)) (of-first P _ (of-marks p (m .b)) (of-none P none)))
+      (of-first P _ (of-symbols q (m .a)) (of-first P _ (of-symbols q (m .b)) (of-none P none)))

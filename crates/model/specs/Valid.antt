@@ -76,6 +76,10 @@ freeFrom marks r (suc n) = not (bitAt marks r) && freeFrom marks (suc r) n
 unfoldable pub markFault : List ℕ → ℕ → ℕ
 markFault marks count = refuse 11 (freeFrom marks count (64 - count))
 
+-- The marks of A, and then those of B.
+unfoldable pub marksFault : Model → ℕ
+marksFault m = firstOf (markFault (m .a .held) (m .a .count) ∷ markFault (m .b .held) (m .b .count) ∷ [])
+
 -- The symbols of n rules from number r on, before and new, are below a limit.
 unfoldable pub usedFault : ℕ → Thread → ℕ → ℕ → ℕ
 usedFault limit t r zero = 0
@@ -89,12 +93,9 @@ symbolsFault t =
     firstOf
     (symbolFault 17 (t .symbols) (t .first) ∷ topFault 17 (t .symbols) (t .top) ∷ usedFault (t .symbols) t 0 (t .count) ∷ [])
 
--- What the parts of a model ask of each other: marks stand on rules of the lists, A's and then B's, and then symbols are below the counts.
+-- What the parts of a model ask of each other: marks stand on rules of the lists, and then symbols are below the counts, A's and B's.
 unfoldable pub crossFault : Model → ℕ
-crossFault m =
-    firstOf
-    (markFault (m .a .held) (m .a .count) ∷ markFault (m .b .held) (m .b .count) ∷ symbolsFault (m .a) ∷ symbolsFault (m .b) ∷
-    [])
+crossFault m = firstOf (marksFault m ∷ symbolsFault (m .a) ∷ symbolsFault (m .b) ∷ [])
 
 -- The refusal number of a model handed in as values: its head by 3, then A's rules by 4 and 13, then B's, then the marks of held rules by
 -- 11, and then the symbols by 17; 0 for none.

@@ -11,12 +11,11 @@ use borrow.Author.Tests.{le-leb}
 use Rattle.model.specs.declared.Model.{Model}
 use Rattle.model.specs.Bits.{allZero}
 use Rattle.model.specs.Results.{accepted, firstOf}
-use Rattle.model.specs.Valid.{markFault}
+use Rattle.model.specs.Valid.{markFault, marksFault}
 use Rattle.model.proofs.Marks.{all-free}
 use Rattle.model.proofs.Results.{checked}
 use Rattle.model.proofs.Tests.{both, order, equal, failed}
 use Rattle.model.specs.Zero.{noMarks}
-use Rattle.record.specs.Older.{marksFault}
 use Rattle.record.specs.Reader.{parseMarks}
 use Rattle.writer.specs.Writer.{heldBytes}
 use Rattle.record.proofs.OneField.{carried}

@@ -14,10 +14,10 @@ use Rattle.model.specs.Bits.{bit}
 use Rattle.model.specs.Fits.{TopFits}
 use Rattle.model.specs.Results.{refused, accepted, need, firstOf}
 use Rattle.model.specs.Rules.{zeroRule}
-use Rattle.model.specs.Valid.{markFault, symbolsFault, crossFault}
+use Rattle.model.specs.Valid.{marksFault, symbolsFault, crossFault}
 use Rattle.model.proofs.Ranges.{symbols}
 use Rattle.model.proofs.Results.{checked}
-use Rattle.record.specs.Older.{uncountedExtras, uncountedSecond, marksFault, uncountedFront, targetByte, Uncounted}
+use Rattle.record.specs.Older.{uncountedExtras, uncountedSecond, uncountedFront, targetByte, Uncounted}
 use Rattle.record.specs.Reader.{Read, andRead, parseByte, parseRanged, parseField, parseRules}
 use Rattle.record.specs.Reader.{announces, parseTarget, parseTop, parseMarks, parseExtras, parseSecond, Head, headRestBy, headBy, parseHead, threadFrom, modelOf, parseFront}
 use Rattle.writer.specs.Writer.{Extra, Second}
@@ -121,16 +121,15 @@ all-known g {first} x rs e h t f =
     })
 
 -- Checks that find nothing do not decide.
-none-more : (a b : ℕ) → firstOf (a ∷ b ∷ 0 ∷ 0 ∷ []) ≡ firstOf (a ∷ b ∷ [])
+none-more : (n : ℕ) → firstOf (n ∷ 0 ∷ 0 ∷ []) ≡ n
 unfolding firstOf
-none-more zero zero = refl
-none-more zero (suc b) = refl
-none-more (suc a) b = refl
+none-more zero = refl
+none-more (suc n) = refl
 
 -- So where no symbol is at fault, the marks alone do.
 marks-decide : (m : Model) → symbolsFault (m .a) ≡ 0 → symbolsFault (m .b) ≡ 0 → crossFault m ≡ marksFault m
-unfolding crossFault marksFault
-marks-decide m p q = rw (p, q) (none-more (markFault (m .a .held) (m .a .count)) (markFault (m .b .held) (m .b .count)))
+unfolding crossFault
+marks-decide m p q = rw (p, q) (none-more (marksFault m))
 
 -- Nothing more is asked of a head of 16 symbols and of rules that were read.
 pub as-marks : {bs m₁ m₂ rest : List ℕ} {h : Head} {ra rb : List Rule} → HeadRead bs h m₁ → Sixteen (h .second)

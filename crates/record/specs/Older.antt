@@ -11,8 +11,8 @@ use Rattle.model.specs.declared.Model.{Model}
 use Rattle.model.specs.declared.Rule.{Rule}
 use Rattle.model.specs.declared.Top.the-variants.{Any}
 use Rattle.model.specs.Bits.{bit, oneIf}
-use Rattle.model.specs.Results.{accepted, unless, firstOf}
-use Rattle.model.specs.Valid.{markFault}
+use Rattle.model.specs.Results.{accepted, unless}
+use Rattle.model.specs.Valid.{marksFault}
 use Rattle.writer.specs.Writer.{Extra, Second, secondOf}
 use Rattle.model.specs.Zero.{noMarks}
 use Rattle.record.specs.Reader.{Read, andRead, parseRanged, parseField, parseTop, parseMarks, parseRule, parseRules}
@@ -36,10 +36,6 @@ uncountedExtras map bs =
 -- That map, of bits 0 to 3 alone (3) and not 0 (5), and its fields.
 unfoldable pub uncountedSecond : Bool → List ℕ → Read Second
 uncountedSecond present bs = andRead (parseField present 3 0 16 0 bs) (λ map rest. uncountedExtras map rest)
-
--- The marks of A, and then those of B.
-unfoldable pub marksFault : Model → ℕ
-marksFault m = firstOf (markFault (m .a .held) (m .a .count) ∷ markFault (m .b .held) (m .b .count) ∷ [])
 
 -- Marks stand on rules of the lists alone (11), and that is all that is asked after the rules.
 abbrev pub marksListed : Model → List ℕ → Read Model

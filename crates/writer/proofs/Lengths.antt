@@ -18,7 +18,7 @@ use Rattle.model.specs.Bits.{allZero}
 use Rattle.model.specs.Order.{rightKey, keyOf, above}
 use Rattle.model.specs.Results.{firstOf}
 use Rattle.model.specs.Valid.{Valid, faultOf, headFault, rangeFault, fieldsFault, threadFault, rulesFault, ruleFault}
-use Rattle.model.specs.Valid.{rightFault, topFault, symbolFault, freeFrom, markFault, usedFault, symbolsFault, crossFault}
+use Rattle.model.specs.Valid.{rightFault, topFault, symbolFault, freeFrom, markFault, marksFault, usedFault, symbolsFault, crossFault}
 use Rattle.writer.specs.Writer.{fieldOf, weightOf, symbolsOf, ruleBytes, ruleListOf, rulesOf, mapOf, headBytes, recordOf}
 use Rattle.writer.specs.Writer.{topOf, heldBytes, Second, secondOf, secondMap, secondFields, targetBytes}
 
@@ -127,7 +127,7 @@ longest = record { g = 3; k = 1; start = record { 0 = 1 }; target = record { 0 =
 
 -- It is valid, and no record is longer than its own.
 pub longest-valid : Valid longest
-unfolding longest full long faultOf firstOf headFault rangeFault fieldsFault topFault threadFault rulesFault above keyOf rightKey ruleFault rightFault symbolFault crossFault markFault freeFrom symbolsFault usedFault
+unfolding longest full long faultOf firstOf headFault rangeFault fieldsFault topFault threadFault rulesFault above keyOf rightKey ruleFault rightFault symbolFault crossFault marksFault markFault freeFrom symbolsFault usedFault
 longest-valid = refl
 
 pub longest-length : length (recordOf longest) ≡ 670

@@ -1,9 +1,10 @@
 -- `read_extras` meets its contract: each field that was read is put in for what was wanted of it, in order.
-use mathlib.Core.Path.{_≡_, sym}
+use mathlib.Core.Path.{_≡_}
 use native.Mathlib.Nat.{div-one}
 use lib.ListN.{drop}
 use borrow.Author.Needs.{needs}
-use Rattle.record.specs.Reader.{parseExtras}
+use Rattle.record.specs.Reader.{andRead, parseCount, parseExtras}
+use Rattle.model.specs.Bits.{bit}
 use Rattle.model.specs.Results.{accepted}
 use Rattle.record.specs.Held.{heldOf, partOf, topPartOf, marksPartOf}
 use Rattle.record.proofs.Parts.{got, ends, refuses}
@@ -90,6 +91,43 @@ returns-4 c =
       got marksPartOf (c .before .before .before .read-marks2 .ensures) (c .before .n4 .given .1),
     ))
 
+-- What was read up to the marks: the counts are left.
+marks-read : (c : tie.After-known-told7)
+    → let marks-a = c .before .before .before .before in
+    let top-b = marks-a .before .before .before .before in
+    let top-a = top-b .before .before .before .before in
+    let start = top-a .before .before .before .before .before in
+    parseExtras (start .args .map) (drop (start .args .at) (start .args .s .now)) ≡
+    andRead (parseCount (bit 4 (start .args .map)) (drop (c .before .x4 .given .0 .0 .at) (start .args .s .now))) (λ symbolsA rest.
+    andRead (parseCount (bit 5 (start .args .map)) rest) (λ symbolsB rest.
+    accepted (
+      record {
+        a = record {
+          top = top-a .before .x .given .0 .0 .top;
+          held = heldOf (marks-a .before .x3 .given .0 .0 .marks);
+          symbols = symbolsA;
+        };
+        b = record {
+          top = top-b .before .x2 .given .0 .0 .top;
+          held = heldOf (c .before .x4 .given .0 .0 .marks);
+          symbols = symbolsB;
+        };
+      },
+      rest,
+    )))
+unfolding parseExtras
+marks-read c =
+    let marks-a = c .before .before .before .before in
+    let top-b = marks-a .before .before .before .before in
+    let top-a = top-b .before .before .before .before in
+    rw (
+      div-one,
+      got topPartOf (top-a .before .before .before .read-top .ensures) (top-a .before .x .given .1),
+      got topPartOf (top-b .before .before .before .read-top2 .ensures) (top-b .before .x2 .given .1),
+      got marksPartOf (marks-a .before .before .before .read-marks .ensures) (marks-a .before .x3 .given .1),
+      got marksPartOf (c .before .before .before .read-marks2 .ensures) (c .before .x4 .given .1),
+    )
+
 field-requires : tie.Need-field-requires
 field-requires c κs = ends marksPartOf (c .before .before .before .read-marks2 .ensures) (c .before .x4 .given .1)
 
@@ -100,20 +138,9 @@ enum-known-n-5 : tie.Need-enum-known-n-5
 enum-known-n-5 c = search needs
 
 returns-5 : tie.Need-returns-5
-unfolding parseExtras
 returns-5 c =
     let marks-b = c .before .before .before .before in
-    let marks-a = marks-b .before .before .before .before in
-    let top-b = marks-a .before .before .before .before in
-    let top-a = top-b .before .before .before .before in
-    refuses (rw (
-      div-one,
-      got topPartOf (top-a .before .before .before .read-top .ensures) (top-a .before .x .given .1),
-      got topPartOf (top-b .before .before .before .read-top2 .ensures) (top-b .before .x2 .given .1),
-      got marksPartOf (marks-a .before .before .before .read-marks .ensures) (marks-a .before .x3 .given .1),
-      got marksPartOf (marks-b .before .before .before .read-marks2 .ensures) (marks-b .before .x4 .given .1),
-      got partOf (c .before .before .before .field .ensures) (c .before .n5 .given .1),
-    ))
+    refuses (rw (marks-read marks-b, got partOf (c .before .before .before .field .ensures) (c .before .n5 .given .1)))
 
 field-requires-2 : tie.Need-field-requires-2
 field-requires-2 c κs = ends partOf (c .before .before .before .field .ensures) (c .before .x5 .given .1)
@@ -125,19 +152,11 @@ enum-known-n-6 : tie.Need-enum-known-n-6
 enum-known-n-6 c = search needs
 
 returns-6 : tie.Need-returns-6
-unfolding parseExtras
 returns-6 c =
     let count-a = c .before .before .before .before in
     let marks-b = count-a .before .before .before .before in
-    let marks-a = marks-b .before .before .before .before in
-    let top-b = marks-a .before .before .before .before in
-    let top-a = top-b .before .before .before .before in
     refuses (rw (
-      div-one,
-      got topPartOf (top-a .before .before .before .read-top .ensures) (top-a .before .x .given .1),
-      got topPartOf (top-b .before .before .before .read-top2 .ensures) (top-b .before .x2 .given .1),
-      got marksPartOf (marks-a .before .before .before .read-marks .ensures) (marks-a .before .x3 .given .1),
-      got marksPartOf (marks-b .before .before .before .read-marks2 .ensures) (marks-b .before .x4 .given .1),
+      marks-read marks-b,
       got partOf (count-a .before .before .before .field .ensures) (count-a .before .x5 .given .1),
       got partOf (c .before .before .before .field2 .ensures) (c .before .n6 .given .1),
     ))
@@ -148,53 +167,23 @@ fields-of-requires c κs = search needs
 fields-of-requires-2 : tie.Need-fields-of-requires-2
 fields-of-requires-2 c κs = search needs
 
--- What was read of all fields.
-all-read : (c : tie.After-known-told11)
-    → let count-a = c .before .before .before .before in
-    let marks-b = count-a .before .before .before .before in
-    let marks-a = marks-b .before .before .before .before in
-    let top-b = marks-a .before .before .before .before in
-    let top-a = top-b .before .before .before .before in
-    let start = top-a .before .before .before .before .before in
-    parseExtras (start .args .map) (drop (start .args .at) (start .args .s .now)) ≡
-    accepted (
-      record {
-        a = record {
-          top = top-a .before .x .given .0 .0 .top;
-          held = heldOf (marks-a .before .x3 .given .0 .0 .marks);
-          symbols = count-a .before .x5 .given .0 .0 .byte;
-        };
-        b = record {
-          top = top-b .before .x2 .given .0 .0 .top;
-          held = heldOf (marks-b .before .x4 .given .0 .0 .marks);
-          symbols = c .before .x6 .given .0 .0 .byte;
-        };
-      },
-      drop (c .before .x6 .given .0 .0 .at) (start .args .s .now),
-    )
-unfolding parseExtras
-all-read c =
-    let count-a = c .before .before .before .before in
-    let marks-b = count-a .before .before .before .before in
-    let marks-a = marks-b .before .before .before .before in
-    let top-b = marks-a .before .before .before .before in
-    let top-a = top-b .before .before .before .before in
-    rw (
-      div-one,
-      got topPartOf (top-a .before .before .before .read-top .ensures) (top-a .before .x .given .1),
-      got topPartOf (top-b .before .before .before .read-top2 .ensures) (top-b .before .x2 .given .1),
-      got marksPartOf (marks-a .before .before .before .read-marks .ensures) (marks-a .before .x3 .given .1),
-      got marksPartOf (marks-b .before .before .before .read-marks2 .ensures) (marks-b .before .x4 .given .1),
-      got partOf (count-a .before .before .before .field .ensures) (count-a .before .x5 .given .1),
-      got partOf (c .before .before .before .field2 .ensures) (c .before .x6 .given .1),
-    )
-
 returns-7 : tie.Need-returns-7
 returns-7 c =
-    let read = c .before .before in
+    let count-b = c .before .before in
+    let count-a = count-b .before .before .before .before in
+    let marks-b = count-a .before .before .before .before in
+    let r = count-b .before .before .before .field2 .ensures in
+    let e = count-b .before .x6 .given .1 in
     record {
-      same = rw (c .fields-of2 .ensures, c .before .fields-of .ensures) (sym (all-read read));
-      within = ends partOf (read .before .before .before .field2 .ensures) (read .before .x6 .given .1);
+      same =
+          rw (
+            c .fields-of2 .ensures,
+            c .before .fields-of .ensures,
+            marks-read marks-b,
+            got partOf (count-a .before .before .before .field .ensures) (count-a .before .x5 .given .1),
+            got partOf r e,
+          );
+      within = ends partOf r e;
     }
 
 pub read-extras-spec : {M : Type 1} → statement M

@@ -1,12 +1,16 @@
 -- The stretch writer's side: each case of its code is one step of the greedy choice. In an answer, c4 is what was known four steps before c.
+use mathlib.Core.List.{List}
 use mathlib.Core.Path.{ap}
-use Prim.Native.Nat.{ℕ, _≤_, _<_}
+use Prim.Native.Nat.{ℕ, _+_, _-_, _≤_, _<_}
 use native.Mathlib.Omega.{arith}
 use borrow.Author.Needs.{needs}
-use Rattle.model.specs.Schedules.{mostSteps}
+use lib.ListN.{set}
+use Rattle.model.specs.First.{First}
+use Rattle.model.specs.Schedules.{mostSteps, Stored}
 use Rattle.run.specs.declared.head.Head.{Head}
-use Rattle.run.specs.Levels.{headAt, Tight}
-use Rattle.run.specs.Plan.{rulesIn, ruleIn}
+use Rattle.run.specs.Exits.{Setting, Runs}
+use Rattle.run.specs.Levels.{headAt, from, stackOf, Steps, Tight, Ready}
+use Rattle.run.specs.Plan.{rulesIn, turnIn, ruleIn}
 use Rattle.run.proofs.Writers.{low-rule, entered-fits, step-fits, stopped, turn-left, turn-ready, turned, step-ready, stepped, emptied}
 use Rattle.run.proofs.stretch.stretch.Reads as stretch
 use Rattle.run.proofs.stretch.+pair+stretch.Lts-stretch as stretch-lts
@@ -177,44 +181,44 @@ returns-4 t c =
     let put = c4 .put-step .ensures in
     (λ w r. emptied w (p .1 .1 .0) low most r _ l (f .0 l) (f .1 .0) (rw (c .enum-told .given .1) at (c .before .before .after-rule .ensures)) put, p .1 .1 .1 .0 .size)
 
+-- The chosen rule is the first step, whatever head it leads to: from there the next writer is ready, and what it writes comes behind it.
+stepping : (t : ℕ) (c : stretch-lts.Else2 (stretch-calls t) (stretch-at t) stretch.Post)
+    {n : Head} {rest : List ℕ} {at : ℕ} {old new : List ℕ}
+    → let a = c .before .before .before .before .before .args in
+    let h = headAt (a .passed) (a .ends) (a .control) (a .symbol) (a .under) in
+    let r = c .before .before .first-rule .result in
+    (w : Setting (a .exits .now) (a .plan .now))
+    → Ready w (a .levels .now) (a .symbols .now) h (stackOf (a .symbols .now) h) (a .count)
+    → Steps (a .symbols .now) h (ruleIn (a .plan .now) r) n rest
+    → (Ready w (a .levels .now) (a .symbols .now) n rest (a .count - 1)
+    → Stored (First (Runs w (from n) rest) (a .count - 1)) (a .count - 1) (at + 2)
+    (set (set old at (turnIn (a .plan .now) (h .passed))) (at + 1) r) new)
+    → Stored (First (Runs w (from h) (stackOf (a .symbols .now) h)) (a .count)) (a .count) at old new
+stepping t c w ready s writes =
+    let c4 = c .before .before .before .before in
+    let c5 = c4 .before in
+    let p = c5 .pre in
+    let l = listed t c in
+    let f = c .before .before .first-rule .ensures in
+    let low : 0 < c5 .args .count = omega (arith, c4 .if1 .left) in
+    let most : c5 .args .count ≤ mostSteps = omega (arith, p .1 .1 .1 .1 .0) in
+    stepped w (p .1 .1 .0) low most ready _ l (f .0 l) (f .1 .0) s
+    (writes (step-ready w (p .1 .1 .0) low most ready _ l (f .0 l) (f .1 .0) s))
+
 pub returns-5 : (t : ℕ) → stretch-lts.Need-returns-5 (stretch-calls t) (stretch-at t) stretch.Post
 returns-5 t c =
     let c5 = c .before .before .before .before .before in
     let c7 = c5 .before .before in
     let c9 = c7 .before .before in
-    let c11 = c9 .before .before in
-    let c13 = c11 .before .before in
-    let c15 = c13 .before .before in
-    let c16 = c15 .before in
-    let p = c16 .pre in
-    let l = listed t c11 in
-    let f = c13 .first-rule .ensures in
-    let low : 0 < c16 .args .count = omega (arith, c15 .if1 .left) in
-    let most : c16 .args .count ≤ mostSteps = omega (arith, p .1 .1 .1 .1 .0) in
-    let put = c9 .put-step .ensures in
-    let s = rw (c5 .next .given .1) at (c7 .after-rule .ensures) in (
-      λ w r. stepped w (p .1 .1 .0) low most r _ l (f .0 l) (f .1 .0) s
-          (rw put at (c .stretch2 .ensures .0) w (step-ready w (p .1 .1 .0) low most r _ l (f .0 l) (f .1 .0) s)),
-      c .stretch2 .ensures .1,
-    )
+    let s = rw (c5 .next .given .1) at (c7 .after-rule .ensures) in
+    let writes = rw (c9 .put-step .ensures) at (c .stretch2 .ensures .0) in
+    (λ w r. stepping t (c9 .before .before) w r s (writes w), c .stretch2 .ensures .1)
 
 pub returns-6 : (t : ℕ) → stretch-lts.Need-returns-6 (stretch-calls t) (stretch-at t) stretch.Post
 returns-6 t c =
     let c5 = c .before .before .before .before .before in
     let c7 = c5 .before .before in
     let c9 = c7 .before .before in
-    let c11 = c9 .before .before in
-    let c13 = c11 .before .before in
-    let c15 = c13 .before .before in
-    let c16 = c15 .before in
-    let p = c16 .pre in
-    let l = listed t c11 in
-    let f = c13 .first-rule .ensures in
-    let low : 0 < c16 .args .count = omega (arith, c15 .if1 .left) in
-    let most : c16 .args .count ≤ mostSteps = omega (arith, p .1 .1 .1 .1 .0) in
-    let put = c9 .put-step .ensures in
-    let s = rw (c5 .next2 .given .1) at (c7 .after-rule .ensures) in (
-      λ w r. stepped w (p .1 .1 .0) low most r _ l (f .0 l) (f .1 .0) (s .0)
-          (rw put at (c .pair .ensures .0) w (step-ready w (p .1 .1 .0) low most r _ l (f .0 l) (f .1 .0) (s .0))),
-      c .pair .ensures .1,
-    )
+    let s = rw (c5 .next2 .given .1) at (c7 .after-rule .ensures) in
+    let writes = rw (c9 .put-step .ensures) at (c .pair .ensures .0) in
+    (λ w r. stepping t (c9 .before .before) w r (s .0) (writes w), c .pair .ensures .1)
