@@ -41,6 +41,7 @@ extern "C" {
 #define TURNCHECK_RECORD_BYTES 670    /* the longest record */
 #define TURNCHECK_LINES_BYTES 683     /* the largest line table: 5,460 bits, of a model with G = 4 and K = 3 */
 #define TURNCHECK_SCHEDULE_BYTES 8190 /* the longest schedule: 4,095 steps; what turncheck_judge asks for */
+#define TURNCHECK_LOG_BYTES 4095      /* the longest log: 4,095 steps */
 #define TURNCHECK_PAGE_BYTES 299008   /* the longest page, that of 4,095 steps: 73 bytes for each step and 73 for the foot line */
 
 /* Why a call refuses. The first fault of a record counts, from left to right. Numbers to 31 are kept for later refusals. */
@@ -56,12 +57,13 @@ enum turncheck_refusal {
     TURNCHECK_REFUSED_STEP_TURN = 9,       /* a step's turn is not one of the 2K, or below that of the step before */
     TURNCHECK_REFUSED_STEP_RULE = 10,      /* a step's rule is not in the list, or does not apply */
     TURNCHECK_REFUSED_MARK_RANGE = 11,     /* a rule number that the thread's list lacks is marked as held */
-    TURNCHECK_REFUSED_STEP_HELD = 12,      /* the schedule leaves a turn after a held step, or ends after one */
+    TURNCHECK_REFUSED_STEP_HELD = 12,      /* a schedule leaves a turn after a held step, or a log a thread, or either ends after one */
     TURNCHECK_REFUSED_RULE_ORDER = 13,     /* a rule is not above the one before it in its thread's list */
     TURNCHECK_REFUSED_MERGE_HEADS = 14,    /* two models differ in G, K, start, target, a top, a symbol count or a first symbol */
     TURNCHECK_REFUSED_MERGE_HELD = 15,     /* a rule is held in one model and free in the other */
     TURNCHECK_REFUSED_MERGE_COUNT = 16,    /* a thread has more than 64 rules in both models together */
-    TURNCHECK_REFUSED_SYMBOL_RANGE = 17    /* a first symbol, a top or a rule's symbol is not below its thread's symbol count */
+    TURNCHECK_REFUSED_SYMBOL_RANGE = 17,   /* a first symbol, a top or a rule's symbol is not below its thread's symbol count */
+    TURNCHECK_REFUSED_LOG = 18             /* the log has more than 4,095 bytes, or one of its bytes has bit 6 set */
 };
 
 /* What a call answers where it does not refuse. */
@@ -75,7 +77,8 @@ enum turncheck_kind {
     TURNCHECK_REACHED = 37, /* turncheck_replay: the run ends in TURNCHECK_STATE, and at the target; with its depths */
     TURNCHECK_TAKEN = 38,   /* turncheck_first: the tray's first TURNCHECK_LENGTH bytes are a record */
     TURNCHECK_NONE = 39,    /* turncheck_first: the tray is empty */
-    TURNCHECK_PAGED = 40    /* turncheck_page: TURNCHECK_PAGE_LENGTH bytes were written */
+    TURNCHECK_PAGED = 40,   /* turncheck_page: TURNCHECK_PAGE_LENGTH bytes were written */
+    TURNCHECK_FOLLOWED = 41 /* turncheck_follow: the log ends in TURNCHECK_STATE, and takes TURNCHECK_ROUNDS rounds at the fewest */
 };
 
 /* The parts of a number: its kind in bits 0 to 7, and three fields of 16 bits, in bits 16 to 31, 32 to 47 and 48 to 63. The length of a
@@ -91,9 +94,10 @@ enum turncheck_kind {
 /* What a number of the right kind carries. */
 #define TURNCHECK_LENGTH(number) TURNCHECK_FIELD1(number)  /* TURNCHECK_WRITTEN, TURNCHECK_TAKEN: a record's length, at most 670 */
 #define TURNCHECK_STEPS(number) TURNCHECK_FIELD1(number)   /* TURNCHECK_FOUND: steps, at most 4,095 */
-#define TURNCHECK_STATE(number) TURNCHECK_FIELD1(number)   /* TURNCHECK_STOPPED, TURNCHECK_REACHED: a shared state, at most 3 */
+#define TURNCHECK_STATE(number) TURNCHECK_FIELD1(number)   /* TURNCHECK_STOPPED, _REACHED, _FOLLOWED: a shared state, at most 3 */
 #define TURNCHECK_DEPTH_A(number) TURNCHECK_FIELD2(number) /* TURNCHECK_FOUND, _STOPPED, _REACHED: the depth of A, 1 to 4,096 */
 #define TURNCHECK_DEPTH_B(number) TURNCHECK_FIELD3(number) /* the same kinds: the depth of B, 1 to 4,096 */
+#define TURNCHECK_ROUNDS(number) TURNCHECK_FIELD2(number)  /* TURNCHECK_FOLLOWED: rounds, at most 2,048 */
 #define TURNCHECK_PAGE_LENGTH(number) ((size_t)((number) >> 16 & 0xFFFFFFFF)) /* TURNCHECK_PAGED: at most 299,008 */
 
 /* Reads a record: TURNCHECK_DONE, or refusal 1 to 6, 11, 13 or 17. */
@@ -140,6 +144,14 @@ uint64_t turncheck_replay(const uint8_t *record, size_t record_size, const uint8
  * 7 for a store with fewer. */
 uint64_t turncheck_page(const uint8_t *record, size_t record_size, const uint8_t *schedule, size_t schedule_size, uint8_t *store,
                         size_t store_size);
+
+/* Follows a log of a record's model from its start. A log has a byte for each step: bit 7 is set for B, bit 6 is zero, and the bits below
+ * are the rule's number in its thread's list, from 0. Answers TURNCHECK_FOLLOWED with the last shared state and the fewest rounds that
+ * could hold the log, which may be above K; an empty log takes 0. No placing of its steps in turns uses fewer, and with each step in the
+ * earliest turn that it can have they use so many. If these are at most K, the log so placed is a schedule that turncheck_replay accepts,
+ * with the same last state. Or a refusal: 1 to 6, 11, 13 or 17 of the record; then 18 for the log's length; then for each byte in turn 18
+ * for bit 6, 12 for a change of thread after a held step, and 10; and last 12 for a held step at the log's end. */
+uint64_t turncheck_follow(const uint8_t *record, size_t record_size, const uint8_t *log, size_t log_size);
 
 #ifdef __cplusplus
 }

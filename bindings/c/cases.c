@@ -40,6 +40,8 @@ static void *call(void *unused) {
         answer = turncheck_merge(record.at, record.size, first.at, first.size, second.at, second.size);
     else if (strcmp(name, "page") == 0)
         answer = turncheck_page(record.at, record.size, first.at, first.size, second.at, second.size);
+    else if (strcmp(name, "follow") == 0)
+        answer = turncheck_follow(record.at, record.size, first.at, first.size);
     return NULL;
 }
 
@@ -133,6 +135,8 @@ static void tell(uint64_t n, int read, char *words, size_t size) {
         snprintf(words, size, "%s:%u", names[kind - TURNCHECK_WRITTEN], field);
     else if (kind == TURNCHECK_PAGED && n == ((uint64_t)TURNCHECK_PAGE_LENGTH(n) << 16 | kind))
         snprintf(words, size, "page:%zu", TURNCHECK_PAGE_LENGTH(n));
+    else if (kind == TURNCHECK_FOLLOWED && n == ((uint64_t)TURNCHECK_ROUNDS(n) << 32 | (uint64_t)field << 16 | kind))
+        snprintf(words, size, "rounds:%u:%u", field, TURNCHECK_ROUNDS(n));
     else
         snprintf(words, size, "number:%" PRIu64, n);
 }
@@ -164,12 +168,30 @@ static int stands(uint64_t number, size_t stack) {
     return accepted;
 }
 
+/* A log with each step in the earliest turn that it can have: replay accepts it, with the same last state, exactly if the rounds are at
+ * most K, which stands behind the map and G. Otherwise a turn is above 2K-1 (9); later ones may be above 255, and are written as 255. */
+static int placed(uint64_t number, size_t stack) {
+    static struct bytes log;
+    unsigned turn = 0, k = record.at[0] & 2 ? record.at[1 + (record.at[0] & 1)] : 2;
+    log = first;
+    first.size = 2 * log.size;
+    for (size_t i = 0; i < log.size; i++) {
+        turn += (turn + (log.at[i] >> 7)) % 2;
+        first.at[2 * i] = (uint8_t)(turn < 255 ? turn : 255);
+        first.at[2 * i + 1] = log.at[i] & 0x3F;
+    }
+    uint64_t last = on_thread("replay", stack);
+    unsigned kind = TURNCHECK_KIND(last);
+    if (TURNCHECK_ROUNDS(number) > k) return last == TURNCHECK_REFUSED_STEP_TURN;
+    return (kind == TURNCHECK_STOPPED || kind == TURNCHECK_REACHED) && TURNCHECK_STATE(last) == TURNCHECK_STATE(number);
+}
+
 /* One case, by its words: the call, what is lent beside the record, the answer, what the stores then hold. */
 static int agrees(char **word, size_t stack) {
     char words[40];
     int judge = strcmp(word[0], "judge") == 0;
     int pair = strcmp(word[0], "page") == 0 || strcmp(word[0], "merge") == 0; /* bytes that are read, and a store */
-    int bytes = pair || strcmp(word[0], "replay") == 0;
+    int bytes = pair || strcmp(word[0], "replay") == 0 || strcmp(word[0], "follow") == 0;
     int stores = judge ? 2 : strcmp(word[0], "write") == 0 || strcmp(word[0], "lines") == 0;
     char **wanted = word + 1 + stores + bytes + pair;
     if (bytes) parse(word[1], &first);
@@ -179,6 +201,7 @@ static int agrees(char **word, size_t stack) {
     tell(n, strcmp(word[0], "read") == 0, words, sizeof words);
     if (*wanted == NULL || strcmp(words, *wanted) != 0) return 0;
     if (TURNCHECK_KIND(n) == TURNCHECK_TAKEN) return stands(n, stack);
+    if (TURNCHECK_KIND(n) == TURNCHECK_FOLLOWED) return placed(n, stack);
     if (pair) return holds(&second, wanted[1]);
     if (stores > 0 && !holds(&first, wanted[1])) return 0;
     if (stores > 1 && !holds(&second, wanted[2])) return 0;

@@ -3,7 +3,7 @@
 #[allow(dead_code)]
 mod turncheck;
 
-use turncheck::{Depths, First, Last, Refusal, Verdict};
+use turncheck::{Depths, First, Followed, Last, Refusal, Verdict};
 
 const FILLER: u8 = 0xAA;
 
@@ -106,6 +106,32 @@ fn taken(tray: &[u8], wanted: &str, stack: usize) -> bool {
     told(answer, words) == wanted && stands
 }
 
+/// A log with each step in the earliest turn that it can have. Turns above 255 are written as 255: one before them is refused.
+fn placed(log: &[u8]) -> Vec<u8> {
+    let mut turn = 0;
+    let step = |&byte: &u8| {
+        turn += (turn + usize::from(byte >> 7)) % 2;
+        [turn.min(255) as u8, byte & 0x3F]
+    };
+    log.iter().flat_map(step).collect()
+}
+
+/// What a log comes to. Replay accepts the log so placed, with the same last state, exactly if the rounds are at most K, which stands
+/// behind the map and G. Otherwise a turn is above 2K-1.
+fn followed(record: &[u8], word: &[&str], stack: usize) -> bool {
+    let log = parse(word[0]);
+    let answer = on_thread(stack, || turncheck::follow(record, &log));
+    if told(answer, |f: Followed| format!("rounds:{}:{}", f.state, f.rounds)) != word[1] {
+        return false;
+    }
+    let Ok(f) = answer else { return true };
+    let k = if record[0] & 2 != 0 { record[1 + usize::from(record[0] & 1)] } else { 2 };
+    match on_thread(stack, || turncheck::replay(record, &placed(&log))) {
+        Ok(last) => f.rounds <= k.into() && last.state == f.state,
+        Err(refusal) => f.rounds > k.into() && refusal == Refusal::StepTurn,
+    }
+}
+
 /// One case, by its words: the call, what is lent beside the record, the answer, what the stores then hold.
 fn agrees(record: &[u8], word: &[&str], stack: usize) -> bool {
     match word[0] {
@@ -136,6 +162,7 @@ fn agrees(record: &[u8], word: &[&str], stack: usize) -> bool {
             told(answer, |n| format!("page:{n}")) == word[3] && expects(word.get(4), record, &store)
         }
         "judge" => judged(record, &word[1..], stack),
+        "follow" => followed(record, &word[1..], stack),
         other => panic!("no such call: {other}"),
     }
 }

@@ -18,6 +18,8 @@ pub const RECORD_BYTES: usize = 670;
 pub const LINES_BYTES: usize = 683;
 /// The longest schedule, of 4,095 steps: what `judge` asks for, whatever the verdict.
 pub const SCHEDULE_BYTES: usize = 8190;
+/// The longest log, of 4,095 steps.
+pub const LOG_BYTES: usize = 4095;
 /// The longest page, that of 4,095 steps: 73 bytes for each step and 73 for the foot line.
 pub const PAGE_BYTES: usize = 299008;
 
@@ -46,7 +48,7 @@ pub enum Refusal {
     StepRule = 10,
     /// A rule number that the thread's list lacks is marked as held.
     MarkRange = 11,
-    /// The schedule leaves a turn after a held step, or ends after one.
+    /// A schedule leaves a turn after a held step, or a log a thread, or either ends after one.
     StepHeld = 12,
     /// A rule is not above the one before it in its thread's list.
     RuleOrder = 13,
@@ -58,6 +60,8 @@ pub enum Refusal {
     MergeCount = 16,
     /// A first symbol, a top or a rule's symbol is not below its thread's symbol count.
     SymbolRange = 17,
+    /// The log has more than 4,095 bytes, or one of its bytes has bit 6 set.
+    Log = 18,
 }
 
 /// A verdict on a model.
@@ -85,6 +89,13 @@ pub struct Last {
     pub state: u16,
     pub target: bool,
     pub depths: Depths,
+}
+
+/// Where a log ends, the last shared state, and the fewest rounds that could hold it: at most 2,048, and 0 for an empty log.
+#[derive(Clone, Copy, Debug, PartialEq, Eq)]
+pub struct Followed {
+    pub state: u16,
+    pub rounds: usize,
 }
 
 /// The first record of a tray, and the rest.
@@ -124,6 +135,7 @@ extern "C" {
         store: *mut u8,
         store_size: usize,
     ) -> u64;
+    fn turncheck_follow(record: *const u8, record_size: usize, log: *const u8, log_size: usize) -> u64;
 }
 
 /// The kinds of answers that are no refusals: the low byte of a number.
@@ -137,6 +149,7 @@ const REACHED: u16 = 37;
 const TAKEN: u16 = 38;
 const NONE: u16 = 39;
 const PAGED: u16 = 40;
+const FOLLOWED: u16 = 41;
 
 /// The greatest depth: that of 4,095 pushes upon the starting symbol.
 const DEEPEST: u16 = 4096;
@@ -171,6 +184,7 @@ fn refusal(number: u64) -> Refusal {
         15 => Refusal::MergeHeld,
         16 => Refusal::MergeCount,
         17 => Refusal::SymbolRange,
+        18 => Refusal::Log,
         _ => panic!("turncheck: the library answers {number:#x}, which this wrapper does not know"),
     }
 }
@@ -281,6 +295,18 @@ pub fn page(record: &[u8], schedule: &[u8], store: &mut [u8]) -> Result<usize, R
     };
     match parts(number) {
         [PAGED, low, high, 0] => Ok(usize::from(low) + (usize::from(high) << 16)),
+        _ => Err(refusal(number)),
+    }
+}
+
+/// Follows a log of a record's model from its start. A log has a byte for each step: bit 7 is set for B, bit 6 is zero, and the bits below
+/// are the rule's number in its thread's list, from 0. Answers the last shared state and the fewest rounds that could hold the log, which
+/// may be above K; an empty log takes 0. No placing of its steps in turns uses fewer, and with each step in the earliest turn that it can
+/// have they use so many. If these are at most K, the log so placed is a schedule that `replay` accepts, with the same last state.
+pub fn follow(record: &[u8], log: &[u8]) -> Result<Followed, Refusal> {
+    let number = unsafe { turncheck_follow(record.as_ptr(), record.len(), log.as_ptr(), log.len()) };
+    match parts(number) {
+        [FOLLOWED, state, rounds, 0] => Ok(Followed { state, rounds: rounds.into() }),
         _ => Err(refusal(number)),
     }
 }

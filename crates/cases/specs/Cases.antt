@@ -2,7 +2,7 @@
 use mathlib.Core.List.{List, [], _∷_, _++_}
 use Prim.Native.Nat.{ℕ}
 use lib.ListN.{replicate}
-use Rattle.cases.specs.Claims.{ungiven, given, Answer, Refused, Clear, Found, Declined, Case}
+use Rattle.cases.specs.Claims.{ungiven, given, Answer, Refused, Clear, Found, Declined, Logged, Unlogged, Case}
 
 -- A case from its parts.
 abbrev pub case : List ℕ → Answer → Case
@@ -41,6 +41,14 @@ marks bits = bits ∷ replicate 7 0x00
 -- Model Two with marks of A.
 abbrev pub heldTwo : ℕ → List ℕ
 heldTwo bits = 0xC8 ∷ 0x83 ∷ 0x04 ∷ (marks bits ++ twoRules)
+
+-- A model at K=1 with one rule in A and one in B, which always apply and change nothing.
+abbrev pub still : List ℕ
+still = 0xCA ∷ 0x01 ∷ 0x00 ∷ 0x01 ∷ 0x02 ∷ 0x00 ∷ 0x00 ∷ 0x01 ∷ 0x02 ∷ 0x00 ∷ 0x00 ∷ []
+
+-- The log of that shortest schedule.
+abbrev pub twoLog : List ℕ
+twoLog = 0x00 ∷ 0x01 ∷ 0x80 ∷ 0x02 ∷ []
 
 -- A record with three symbols of A and two of B: the tops and the first symbols of both, and of each one rule that pushes, by its symbol
 -- before and its two new ones.
@@ -87,6 +95,23 @@ cases =
     case (heldTwo 0x01) (Declined (0x00 ∷ 0x00 ∷ 0x02 ∷ 0x00 ∷ []) 12) ∷
     case (heldTwo 0x02) (Declined (0x00 ∷ 0x01 ∷ 0x01 ∷ 0x09 ∷ []) 12) ∷
     case (heldTwo 0x02) (Declined (0x00 ∷ 0x01 ∷ 0x04 ∷ 0x09 ∷ []) 9) ∷
+    -- rounds of a log by its threads, whatever K is: none, A, B, AB, BA, ABA
+    case still (Logged [] 0 0) ∷
+    case still (Logged (0x00 ∷ []) 0 1) ∷
+    case still (Logged (0x80 ∷ []) 0 1) ∷
+    case still (Logged (0x00 ∷ 0x80 ∷ []) 0 1) ∷
+    case still (Logged (0x80 ∷ 0x00 ∷ []) 0 2) ∷
+    case still (Logged (0x00 ∷ 0x80 ∷ 0x00 ∷ []) 0 2) ∷
+    -- Two's log, at K=2 and at K=1; without its second step it is refused
+    case (0xC8 ∷ 0x03 ∷ twoRules) (Logged twoLog 3 2) ∷
+    case (0xCA ∷ 0x01 ∷ 0x03 ∷ twoRules) (Logged twoLog 3 2) ∷
+    case (0xC8 ∷ 0x03 ∷ twoRules) (Unlogged (0x00 ∷ 0x80 ∷ 0x02 ∷ []) 10) ∷
+    -- logs that change the thread after a held step, or end after one; bit 6 comes first, and the rule last
+    case (heldTwo 0x02) (Unlogged (0x00 ∷ 0x01 ∷ []) 12) ∷
+    case (heldTwo 0x02) (Unlogged twoLog 12) ∷
+    case (heldTwo 0x02) (Unlogged (0x01 ∷ 0xC0 ∷ []) 18) ∷
+    case (heldTwo 0x02) (Unlogged (0x01 ∷ 0x89 ∷ []) 12) ∷
+    case (heldTwo 0x02) (Unlogged (0x01 ∷ 0x09 ∷ []) 10) ∷
     -- records refused: two that end too early, and one for each other number
     case [] (Refused 1) ∷
     case (0x4B ∷ 0x02 ∷ []) (Refused 1) ∷

@@ -1,5 +1,5 @@
 -- What is claimed of a record: its refusal, or a verdict on its model over runs of any length, with a shortest schedule and
--- the line table where they are given, or a schedule that replay refuses.
+-- the line table where they are given, or a schedule that replay refuses, or where a log leads.
 use mathlib.Core.Bool.{true}
 use mathlib.Core.List.{List, []}
 use mathlib.Core.Path.{_≡_}
@@ -13,6 +13,9 @@ use Rattle.model.specs.Schedules.{bytesOf, Shown}
 use Rattle.model.specs.Tables.{bytesFor, LineTable}
 use Rattle.model.specs.Valid.{Valid}
 use Rattle.model.specs.Verdict.{clear, found, Judged}
+use Rattle.log.specs.declared.Followed.the-variants as following
+use Rattle.log.specs.Log.{followedOf}
+use Rattle.log.specs.Placings.{Fewest}
 use Rattle.record.specs.Reader.{readOf}
 use Rattle.replay.specs.declared.Replayed.the-variants as replayed
 use Rattle.replay.specs.Replay.{replayOf}
@@ -23,12 +26,15 @@ pub data Table : Type 0 where
   given : List ℕ → Table
 
 -- What must come of a record: a refusal by its number, Clear, Found with its steps, the depths of A and B and the bytes of a schedule, or
--- for the bytes of a schedule the number by which replay refuses them.
+-- for the bytes of a schedule the number by which replay refuses them; or for a log the last shared state and the rounds, or the number by
+-- which it is refused.
 pub data Answer : Type 0 where
   Refused : ℕ → Answer
   Clear : Table → Answer
   Found : ℕ → ℕ → ℕ → List ℕ → Table → Answer
   Declined : List ℕ → ℕ → Answer
+  Logged : List ℕ → ℕ → ℕ → Answer
+  Unlogged : List ℕ → ℕ → Answer
 
 -- A record, byte by byte, and what must come of it.
 pub record Case : Type 0 where
@@ -59,6 +65,9 @@ ClaimsOf bytes (Clear t) = Accepts bytes (λ m. Judged m clear × Lined m t)
 ClaimsOf bytes (Found n a b schedule t) =
     Accepts bytes (λ m. Judged m (found n) × Scheduled m n (record { a = a; b = b }) schedule × Lined m t)
 ClaimsOf bytes (Declined schedule n) = Accepts bytes (λ m. replayOf m schedule ≡ replayed.Refused n)
+ClaimsOf bytes (Logged log q n) =
+    Accepts bytes (λ m. Fewest m log q n × (followedOf m log ≡ following.Accepted (record { 0 = q }) n))
+ClaimsOf bytes (Unlogged log n) = Accepts bytes (λ m. followedOf m log ≡ following.Refused n)
 
 -- The claims of a case.
 abbrev pub Claims : Case → Type 0

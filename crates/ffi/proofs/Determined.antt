@@ -20,6 +20,7 @@ use Rattle.record.specs.Reader.{Read, readOf}
 use Rattle.ffi.specs.Replies.{Reply, numberOf, judgeReply, Says}
 use Rattle.ffi.specs.Calls.{Answered, WrittenBy, SecondCall}
 use Rattle.ffi.proofs.turncheck_first.Reads as first
+use Rattle.ffi.proofs.turncheck_follow.Reads as follow
 use Rattle.ffi.proofs.turncheck_judge.Reads as judge
 use Rattle.ffi.proofs.turncheck_lines.Reads as lines
 use Rattle.ffi.proofs.turncheck_merge.Reads as merge
@@ -64,6 +65,12 @@ pub replay-determined : (κs : Lfts 2) (bytes schedule : RefT (List ℕ)) (r s :
     → replay.Post κs (bytes, (schedule, tt)) r (bytes, (schedule, tt)) → replay.Post κs (bytes, (schedule, tt)) s (bytes, (schedule, tt))
     → r ≡ s
 replay-determined κs bytes schedule r s p q =
+    by-reading (now bytes) (λ n e. said (rw e at p) (rw e at q)) (λ m rest e. said (rw e at p) (rw e at q))
+
+-- Following a log.
+pub follow-determined : (κs : Lfts 2) (bytes log : RefT (List ℕ)) (r s : ℕ)
+    → follow.Post κs (bytes, (log, tt)) r (bytes, (log, tt)) → follow.Post κs (bytes, (log, tt)) s (bytes, (log, tt)) → r ≡ s
+follow-determined κs bytes log r s p q =
     by-reading (now bytes) (λ n e. said (rw e at p) (rw e at q)) (λ m rest e. said (rw e at p) (rw e at q))
 
 -- Writing a record.

@@ -1,5 +1,6 @@
--- What a call answers of a valid model is in range: it is refused by 7 to 10 or by 12, a record has at most 670 bytes, a schedule at
--- most 4,095 steps and depths of one more, a walk stays in the states below g, and a page has 73 bytes a step and 73 more.
+-- What a call answers of a valid model is in range: it is refused by 7 to 10, by 12 or by 18, a record has at most 670 bytes, a schedule at
+-- most 4,095 steps and depths of one more, a walk stays in the states below g, a page has 73 bytes a step and 73 more, and a log takes at most
+-- 2,048 rounds.
 use mathlib.Core.Bool.{Bool, true, false, _&&_}
 use mathlib.Core.List.{List, [], _∷_}
 use mathlib.Core.Path.{_≡_, refl, sym, _∙_}
@@ -30,12 +31,16 @@ use Rattle.replay.specs.declared.Replayed.{Replayed}
 use Rattle.replay.specs.declared.Replayed.the-variants as replayed
 use Rattle.replay.specs.Replay.{replayOf}
 use Rattle.replay.proofs.Ranges.{Ends, replay-ends}
+use Rattle.log.specs.declared.Followed.{Followed}
+use Rattle.log.specs.declared.Followed.the-variants as following
+use Rattle.log.specs.Log.{followedOf}
+use Rattle.log.proofs.Ranges.{Ends as FollowEnds, follow-ends}
 use Rattle.page.specs.declared.Paged.{Paged}
 use Rattle.page.specs.declared.Paged.the-variants as paging
 use Rattle.page.specs.Answer.{replayRefusal, pageRefusal, pagedBy, pagedOf}
 use Rattle.page.specs.Page.{pageOf}
 use Rattle.page.proofs.Pages.{pageable, page-length}
-use Rattle.ffi.specs.Replies.{FieldsFit, ReplyFits, writeReply, linesReply, judgeReply, replayReply, pageReply}
+use Rattle.ffi.specs.Replies.{FieldsFit, ReplyFits, writeReply, linesReply, judgeReply, replayReply, pageReply, followReply}
 
 -- A valid model is refused by 7 alone, where a store is too small.
 seven : (m : Model) (room : Bool) → Valid m → storeRefusal m room ≤ 7
@@ -126,3 +131,16 @@ page-range m l size v = go (replayOf m l) refl (replay-ends m l v) (leb (length 
 pub page-fits : (m : Model) (l : List ℕ) (size : ℕ) {p : Paged} {n : ℕ} → Valid m → p ≡ pagedOf m l size → p ≡ paging.Length n
     → n < 4294967296
 page-fits m l size v e f = rw (sym e ∙ f) at (page-range m l size v)
+
+-- What the call that follows a log answers: the refusal, or a state below g and at most 2,048 rounds ..
+pub follow-range : (m : Model) (log : List ℕ) → Valid m → ReplyFits (followReply (followedOf m log))
+follow-range m log v = go (followedOf m log) (follow-ends m log v)
+  where
+    go : (r : Followed) → FollowEnds (m .g) r → ReplyFits (followReply r)
+    go (following.Accepted q n) h = (omega (arith, h .0, valid-fits m .0 v .g), omega (arith, h .1))
+    go (following.Refused n) h = (h .0, omega (arith, h .1))
+
+-- .. which fit in two fields.
+pub follow-fits : (m : Model) (log : List ℕ) {f : Followed} {q : Shared} {n : ℕ} → Valid m → f ≡ followedOf m log
+    → f ≡ following.Accepted q n → (q .0 < 65536) × (n < 65536)
+follow-fits m log v e f = rw (sym e ∙ f) at (follow-range m log v)

@@ -12,12 +12,13 @@ use Rattle.record.specs.Reader.{Read, readOf}
 use Rattle.record.specs.Written.{writtenOf, storeOf}
 use Rattle.reach.specs.Answer.{outcomeOf, Leaves}
 use Rattle.replay.specs.Replay.{replayOf}
+use Rattle.log.specs.Log.{followedOf}
 use Rattle.page.specs.Answer.{pagedOf, pageStore}
 use Rattle.judge.specs.declared.Judgement.{Judgement}
 use Rattle.judge.specs.Answer.{refusalOf, Answers, LeavesLines, LeavesSchedule}
 use Rattle.tray.specs.Answer.{firstReadingOf, Stands}
 use Rattle.tray.specs.Tray.{trayOf}
-use Rattle.ffi.specs.Replies.{refused, done, Says, writeReply, linesReply, judgeReply, replayReply, pageReply, firstReply}
+use Rattle.ffi.specs.Replies.{refused, done, Says, writeReply, linesReply, judgeReply, replayReply, pageReply, followReply, firstReply}
 
 -- What holds by what reading comes to: one thing of a refusal's number, or another of the model.
 abbrev pub Either : (ℕ → Type 0) → (Model → Type 0) → Read Model → Type 0
@@ -83,6 +84,10 @@ abbrev pub PageCall : List ℕ → List ℕ → ℕ → List ℕ → List ℕ �
 PageCall bytes schedule r old new =
     Either (λ n. Says r (refused n) × (new ≡ old))
     (λ m. Says r (pageReply (pagedOf m schedule (length old))) × (new ≡ pageStore m schedule old)) (readOf bytes)
+
+-- Following a log of the model that was read: what that call answers.
+abbrev pub FollowCall : List ℕ → List ℕ → ℕ → Type 0
+FollowCall bytes log r = Either (λ n. Says r (refused n)) (λ m. Says r (followReply (followedOf m log))) (readOf bytes)
 
 -- Reading the first record of a tray: what that call answers; a record that is taken stands at the front with as many bytes as are said.
 abbrev pub FirstCall : List ℕ → ℕ → Type 0

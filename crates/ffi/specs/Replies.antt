@@ -6,6 +6,8 @@ use lib.Dec.{eqb}
 use Rattle.model.specs.declared.Depths.{Depths}
 use Rattle.judge.specs.declared.Judgement.{Judgement}
 use Rattle.judge.specs.declared.Judgement.the-variants as judgement
+use Rattle.log.specs.declared.Followed.{Followed}
+use Rattle.log.specs.declared.Followed.the-variants as following
 use Rattle.page.specs.declared.Paged.{Paged}
 use Rattle.page.specs.declared.Paged.the-variants as paging
 use Rattle.reach.specs.declared.Outcome.{Outcome}
@@ -19,7 +21,7 @@ use Rattle.tray.specs.declared.FirstRecord.the-variants as firstRecord
 
 -- Everything that a call answers: a refusal's number; done; the length of a record that was written; the three verdicts, Found with
 -- its steps and depths; the last shared state and the depths of a replay that stopped elsewhere, or that reached the target; the length of
--- the record taken from the front of a tray, or that there is none; the length of a page.
+-- the record taken from the front of a tray, or that there is none; the length of a page; the last shared state and the rounds of a log.
 pub data Reply : Type 0 where
   refused : ℕ → Reply
   done : Reply
@@ -30,13 +32,14 @@ pub data Reply : Type 0 where
   taken : ℕ → Reply
   none : Reply
   paged : ℕ → Reply
+  followed : ℕ → ℕ → Reply
 
 -- A kind in the low byte, and three fields of 16 bits from bit 16 on.
 abbrev pub packed : ℕ → ℕ → ℕ → ℕ → ℕ
 packed kind x y z = kind + 65536 * (x + 65536 * (y + 65536 * z))
 
 -- The number of a reply: its kind, which is a refusal's own number, 0, or from 32 on, and what it carries in the first field; depths stand
--- in the second, A's, and the third, B's, and a page's length reaches into the second.
+-- in the second, A's, and the third, B's, a page's length reaches into the second, and a log's rounds stand there.
 abbrev pub numberOf : Reply → ℕ
 numberOf (refused n) = packed n 0 0 0
 numberOf done = packed 0 0 0 0
@@ -49,6 +52,7 @@ numberOf (reached q d) = packed 37 q (d .a) (d .b)
 numberOf (taken n) = packed 38 n 0 0
 numberOf none = packed 39 0 0 0
 numberOf (paged n) = packed 40 n 0 0
+numberOf (followed q n) = packed 41 q n 0
 
 -- The reply of a kind, a first field, the two others as depths, and the first two as one; a kind that no other reply has is a refusal's
 -- number.
@@ -62,7 +66,8 @@ replyBy kind x d both =
     (cond (eqb kind 36) (stopped x d)
     (cond (eqb kind 37) (reached x d)
     (cond (eqb kind 38) (taken x)
-    (cond (eqb kind 39) none (cond (eqb kind 40) (paged both) (refused kind))))))))))
+    (cond (eqb kind 39) none
+    (cond (eqb kind 40) (paged both) (cond (eqb kind 41) (followed x (d .a)) (refused kind)))))))))))
 
 -- The reply that a number tells, by its low byte and its fields.
 abbrev pub replyOf : ℕ → Reply
@@ -89,6 +94,7 @@ ReplyFits (reached q d) = FieldsFit q d
 ReplyFits (taken n) = n < 65536
 ReplyFits none = Unit {0}
 ReplyFits (paged n) = n < 4294967296
+ReplyFits (followed q n) = (q < 65536) × (n < 65536)
 
 -- A number says a reply: it is that reply's number, and what it tells is that reply.
 pub record Says (r : ℕ) (a : Reply) : Type 0 where
@@ -133,3 +139,8 @@ abbrev pub firstReply : FirstRecord → Reply
 firstReply firstRecord.None = none
 firstReply (firstRecord.Accepted n) = taken n
 firstReply (firstRecord.Refused n) = refused n
+
+-- The reply to a call that follows a log.
+abbrev pub followReply : Followed → Reply
+followReply (following.Accepted shared rounds) = followed (shared .0) rounds
+followReply (following.Refused n) = refused n

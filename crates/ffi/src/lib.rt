@@ -1,10 +1,12 @@
 // The calls for C and Rust: bytes in, a number out, and a record in place of a model. The numbers are defined in specs/.
 ghost use mathlib.Core.Path.{_≡_};
 ghost use Prim.Native.Nat.{_<_};
-ghost use Rattle.ffi.specs.Calls.{ReadCall, WriteCall, MergeCall, SecondCall, MergedCall, LinesCall, JudgeCall, ReplayCall, PageCall, FirstCall};
+ghost use Rattle.ffi.specs.Calls.{ReadCall, WriteCall, MergeCall, SecondCall, MergedCall, LinesCall};
+ghost use Rattle.ffi.specs.Calls.{JudgeCall, ReplayCall, PageCall, FollowCall, FirstCall};
 ghost use Rattle.ffi.specs.Replies.{packed, FieldsFit, endKind};
 ghost use Rattle.model.specs.Valid.{Valid};
 use judge::Judgement;
+use log::Followed;
 use merge::Merged;
 use model::Depths;
 use model::Model;
@@ -35,6 +37,8 @@ const TAKEN: u64 = 38;
 const NONE: u64 = 39;
 
 const PAGED: u64 = 40;
+
+const FOLLOWED: u64 = 41;
 
 // Reads a record: done where it is accepted.
 #[no_mangle]
@@ -183,6 +187,24 @@ pub extern "C" fn turncheck_page(bytes: &[u8], schedule: &[u8], store: &mut [u8]
     }
 }
 
+// Reads a record and follows a log of its model: the last shared state and the fewest rounds that could hold the log.
+#[no_mangle]
+pub extern "C" fn turncheck_follow(bytes: &[u8], log: &[u8]) -> u64
+    ensures { λ r. ⌜ FollowCall (now (bytes .entry)) (now (log .entry)) r ⌝ }
+{
+    let reading = record::read(bytes);
+    let answer = reading.answer;
+    match answer {
+        Answer::Accepted => match log::follow(reading.model, log) {
+            Followed::Accepted(shared, rounds) => {
+                with_fields(FOLLOWED, shared.0 as u64, rounds as u64, 0)
+            }
+            Followed::Refused(n) => n as u64,
+        },
+        Answer::Refused(n) => n as u64,
+    }
+}
+
 // Reads the first record of a tray: taken, with its length, or none.
 #[no_mangle]
 pub extern "C" fn turncheck_first(tray: &[u8]) -> u64
@@ -210,5 +232,13 @@ fn with_depths(kind: u64, x: u64, depths: Depths) -> u64
     requires { ⌜ kind < 256 ⌝ ∗ ⌜ FieldsFit x depths ⌝ }
     ensures { λ r. ⌜ r ≡ packed kind x (depths .a) (depths .b) ⌝ }
 {
-    kind + 65536 * (x + 65536 * (depths.a as u64 + 65536 * depths.b as u64))
+    with_fields(kind, x, depths.a as u64, depths.b as u64)
+}
+
+// The number of a kind that carries three numbers in its fields.
+fn with_fields(kind: u64, x: u64, y: u64, z: u64) -> u64
+    requires { ⌜ kind < 256 ⌝ ∗ ⌜ (x < 65536) × (y < 65536) × (z < 65536) ⌝ }
+    ensures { λ r. ⌜ r ≡ packed kind x y z ⌝ }
+{
+    kind + 65536 * (x + 65536 * (y + 65536 * z))
 }

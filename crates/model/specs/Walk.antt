@@ -95,11 +95,14 @@ unfoldable pub fire : Model → Config → Step → List ℕ → Walked
 fire m c s [] = refused 10
 fire m c s (top ∷ w) = need 10 (applies (threadOf (ownerOf (s .turn)) m) (s .rule) (c .shared) top) (accepted (after m c s w))
 
--- One step of the walk: the turn number first (9), then that no turn is left after a held step (12), then the rule of that turn's
--- thread (10).
+-- A step made in its turn, whatever that turn's number is: no turn is left after a held step (12), and then the rule of the turn's thread
+-- must apply (10).
+abbrev pub made : Model → Config → Step → Walked
+made m c s = need 12 (turnFree c s) (fire m c s (stackOf (ownerOf (s .turn)) (c .stacks)))
+
+-- One step of the walk: the turn number first (9), and then the step is made in its turn (12, 10).
 unfoldable pub stepFrom : Model → Config → Step → Walked
-stepFrom m c s =
-    need 9 (turnFits m c s) (need 12 (turnFree c s) (fire m c s (stackOf (ownerOf (s .turn)) (c .stacks))))
+stepFrom m c s = need 9 (turnFits m c s) (made m c s)
 
 -- The walk of a list of steps from a configuration; its first bad step gives the refusal. It does not end after a held step (12).
 unfoldable pub walk : Model → Config → List Step → Walked

@@ -45,7 +45,7 @@ walked m ss (accepted c) {g} {reached} {depths} e =
     (c, refl, same, rw (← same) test, deep)
 
 -- A walk that is not refused does not end after a held step.
-free : (m : Model) (ss : List Step) (c : Config) {d : Config} → walk m c ss ≡ accepted d → d .held ≡ false
+pub free : (m : Model) (ss : List Step) (c : Config) {d : Config} → walk m c ss ≡ accepted d → d .held ≡ false
 unfolding walk
 free m [] c {d} e =
     checked 12 (not (c .held)) e λ t w.

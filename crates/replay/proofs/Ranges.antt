@@ -14,7 +14,7 @@ use Rattle.model.specs.Rules.{applies}
 use Rattle.model.specs.declared.ThreadId.the-variants.{A, B}
 use Rattle.model.specs.Schedules.{stepsOf, mostSteps}
 use Rattle.model.specs.Valid.{Valid, faultOf}
-use Rattle.model.specs.Walk.{Step, Config, Walked, turnFits, turnFree, after, fire, stepFrom, walk, ownerOf, threadOf, stackOf, startOf}
+use Rattle.model.specs.Walk.{Step, Config, Walked, turnFits, turnFree, after, fire, made, stepFrom, walk, ownerOf, threadOf, stackOf, startOf}
 use Rattle.model.proofs.Checks.{both-pass}
 use Rattle.model.proofs.Inside.{applies-iff, fits-of}
 use Rattle.model.proofs.Ranges.{valid-fits}
@@ -25,41 +25,45 @@ use Rattle.replay.specs.declared.Replayed.the-variants.{Accepted, Refuse
 use Rattle.replay.specs.Replay.{sizeFits, sizeRefusal, replayedBy, replayOf}
 use Rattle.depths.proofs.Climbing.{legal, depth-most}
 
--- A walk is refused by 9, 12 or 10, or ends in a state below g.
-abbrev WalkEnds : ℕ → Walked → Type 0
-WalkEnds g (refused n) = (1 ≤ n) × (n ≤ 12)
-WalkEnds g (accepted c) = c .shared < g
+-- A walk is refused by a number up to a last one, or ends in a state below g.
+abbrev pub WalkEnds : ℕ → ℕ → Walked → Type 0
+WalkEnds last g (refused n) = (1 ≤ n) × (n ≤ last)
+WalkEnds last g (accepted c) = c .shared < g
 
-module _ {m : Model} (f : Fits m) where
-  fired : (c : Config) (s : Step) (w : List ℕ) → WalkEnds (m .g) (fire m c s w)
+-- A test on the way refuses, or leaves the rest ..
+pub tested : (last g n : ℕ) (b : Bool) (w : Walked) → 1 ≤ n → n ≤ last → WalkEnds last g w → WalkEnds last g (need n b w)
+tested last g n true w h k e = e
+tested last g n false w h k e = (h, k)
+
+-- .. and a step refuses, or leaves those after it.
+pub onward : (last g : ℕ) (x : Walked) (next : Config → Walked) → WalkEnds last g x
+    → ((d : Config) → d .shared < g → WalkEnds last g (next d)) → WalkEnds last g (andThen x next)
+onward last g (refused n) next e later = e
+onward last g (accepted d) next e later = later d e
+
+module _ {m : Model} (f : Fits m) (last : ℕ) (most : 12 ≤ last) where
+  fired : (c : Config) (s : Step) (w : List ℕ) → WalkEnds last (m .g) (fire m c s w)
   unfolding fire
   fired c s [] = (omega arith, omega arith)
   fired c s (top ∷ w) = go (applies (threadOf (ownerOf (s .turn)) m) (s .rule) (c .shared) top) (λ t. applies-iff _ _ _ _ .0 t .listed)
     where
-      go : (b : Bool) → (T b → s .rule < threadOf (ownerOf (s .turn)) m .count) → WalkEnds (m .g) (need 10 b (accepted (after m c s w)))
+      go : (b : Bool) → (T b → s .rule < threadOf (ownerOf (s .turn)) m .count)
+          → WalkEnds last (m .g) (need 10 b (accepted (after m c s w)))
       go true h = fits-of f (ownerOf (s .turn)) .rules (s .rule) (h tt) .next
       go false h = (omega arith, omega arith)
 
-  -- A test on the way refuses, or leaves the rest.
-  tested : (n : ℕ) (b : Bool) (w : Walked) → (1 ≤ n) × (n ≤ 12) → WalkEnds (m .g) w → WalkEnds (m .g) (need n b w)
-  tested n true w h e = e
-  tested n false w h e = h
+  -- A step made in its turn is refused by 12 or 10.
+  pub made-ends : (c : Config) (s : Step) → WalkEnds last (m .g) (made m c s)
+  made-ends c s =
+      tested last (m .g) 12 (turnFree c s) _ (omega arith) (omega arith) (fired c s (stackOf (ownerOf (s .turn)) (c .stacks)))
 
-  stepped : (c : Config) (s : Step) → WalkEnds (m .g) (stepFrom m c s)
-  unfolding stepFrom
-  stepped c s =
-      tested 9 (turnFits m c s) _ (omega arith, omega arith)
-      (tested 12 (turnFree c s) _ (omega arith, omega arith) (fired c s (stackOf (ownerOf (s .turn)) (c .stacks))))
-
-  onward : (x : Walked) (next : Config → Walked) → WalkEnds (m .g) x → ((d : Config) → d .shared < m .g → WalkEnds (m .g) (next d))
-      → WalkEnds (m .g) (andThen x next)
-  onward (refused n) next e later = e
-  onward (accepted d) next e later = later d e
-
-  walks : (ss : List Step) (c : Config) → c .shared < m .g → WalkEnds (m .g) (walk m c ss)
-  unfolding walk
-  walks [] c h = tested 12 (not (c .held)) (accepted c) (omega arith, omega arith) h
-  walks (s ∷ ss) c h = onward (stepFrom m c s) (λ d. walk m d ss) (stepped c s) (λ d k. walks ss d k)
+-- A walk is refused by 9, 12 or 10.
+walks : {m : Model} → Fits m → (ss : List Step) (c : Config) → c .shared < m .g → WalkEnds 12 (m .g) (walk m c ss)
+unfolding walk stepFrom
+walks {m} f [] c h = tested 12 (m .g) 12 (not (c .held)) (accepted c) (omega arith) (omega arith) h
+walks {m} f (s ∷ ss) c h =
+    onward 12 (m .g) (stepFrom m c s) (λ d. walk m d ss)
+    (tested 12 (m .g) 9 (turnFits m c s) _ (omega arith) (omega arith) (made-ends f 12 (omega arith) c s)) (λ d k. walks f ss d k)
 
 -- What replay answers of a valid model: a refusal from 1 to 12, or a state below g and depths of at most 4,096.
 abbrev pub Ends : ℕ → Replayed → Type 0
@@ -78,7 +82,7 @@ replay-ends m bytes v =
     rw v (go (sizeFits bytes) (few-steps bytes) (walk m (startOf m) (stepsOf bytes)) refl (walks f (stepsOf bytes) (startOf m) (f .start)))
   where
     go : (b : Bool) → (T b → length (stepsOf bytes) ≤ mostSteps) → (w : Walked) → walk m (startOf m) (stepsOf bytes) ≡ w
-        → WalkEnds (m .g) w → Ends (m .g) (replayedBy m (stepsOf bytes) (unless (firstOf (refuse 8 b ∷ [])) w))
+        → WalkEnds 12 (m .g) w → Ends (m .g) (replayedBy m (stepsOf bytes) (unless (firstOf (refuse 8 b ∷ [])) w))
     go false few w e h = (omega arith, omega arith)
     go true few (refused n) e h = h
     go true few (accepted c) e h =

@@ -1,16 +1,17 @@
--- A step of the walk, decided test by test: its turn number first, then the step of the thread whose turn it is.
-use mathlib.Core.Bool.{Bool, true, false}
+-- A step made in its turn, decided test by test: that no turn is left after a held step, then the step of the thread whose turn it is.
+use mathlib.Core.Bool.{Bool, true, false, not, _||_}
 use mathlib.Core.List.{List, [], _∷_}
 use mathlib.Core.Path.{_≡_, refl}
 use Prim.Native.Nat.{ℕ}
+use borrow.Author.Tests.{not-true, not-false}
+use lib.Dec.{eqb}
 use Rattle.model.specs.declared.Model.{Model}
-use Rattle.model.specs.Results.{refused, accepted, andThen, need, unless, refuse, firstOf}
+use Rattle.model.specs.Results.{refused, accepted, andThen, need}
 use Rattle.model.specs.Rules.{applies}
-use Rattle.model.specs.Walk.{ownerOf, threadOf, stackOf, withStack, Config, Step, Walked, turnFits, turnFree, fire, stepFrom}
+use Rattle.model.specs.Walk.{ownerOf, threadOf, stackOf, withStack, Config, Step, Walked, turnFree, fire, made}
 use Rattle.model.specs.declared.ThreadId.{ThreadId}
-use Rattle.model.proofs.Results.{due}
 use Rattle.walk.specs.declared.Walk.{Walk}
-use Rattle.walk.specs.Stack.{configOf, turnFault, Moved, moveOf}
+use Rattle.walk.specs.Stack.{configOf, Moved, moveOf}
 
 -- What the step of a thread comes to as a step of the walk.
 abbrev pub carried : ThreadId → Config → Step → Moved → Walked
@@ -23,26 +24,15 @@ decides : (i : ThreadId) (c : Config) (s : Step) (b : Bool) (x : Moved)
 decides i c s true x = refl
 decides i c s false x = refl
 
--- Two tests in order refuse as the first refusal of the two does.
-in-order : (x y : Bool) (r : Walked) → need 9 x (need 12 y r) ≡ unless (firstOf (refuse 9 x ∷ refuse 12 y ∷ [])) r
-unfolding firstOf
-in-order true true r = refl
-in-order true false r = refl
-in-order false y r = refl
-
 module _ (m : Model) (w : Walk) (a b : List ℕ) (s : Step) where
   -- Where the walk is.
   abbrev here : Config
   here = configOf w a b
 
-  -- A step is refused by its turn first, and is then that of its thread.
-  by-turn : stepFrom m here s ≡ unless (turnFault m w (s .turn)) (fire m here s (stackOf (ownerOf (s .turn)) (here .stacks)))
-  unfolding stepFrom turnFits turnFree turnFault
-  by-turn = in-order (turnFits m here s) (turnFree here s) _
-
-  -- A turn that is refused is the answer.
-  pub refuses : {n : ℕ} → n ≡ turnFault m w (s .turn) → (n ≡ 0 → ⊥) → refused n ≡ stepFrom m here s
-  refuses e h = rw (by-turn, ← e) (due _ h)
+  -- A step that leaves a turn after a held one is refused.
+  pub bound : {may : Bool} → may ≡ (not (w .held) || eqb (w .turn) (s .turn)) → not may ≡ true → refused 12 ≡ made m here s
+  unfolding turnFree
+  bound {may} e h = rw (← e, not-true may h)
 
   -- The step that the definition has in terms of the model is that of the thread.
   fires : (i : ThreadId) → ownerOf (s .turn) ≡ i → (l : List ℕ)
@@ -51,8 +41,9 @@ module _ (m : Model) (w : Walk) (a b : List ℕ) (s : Step) where
   fires i e [] = refl
   fires i e (top ∷ l) = rw e (decides i here s (applies (threadOf i m) (s .rule) (w .shared) top) (accepted _))
 
-  -- Any other turn is the step of its thread i, which comes to x.
-  pub comes : (i : ThreadId) → ownerOf (s .turn) ≡ i → {n : ℕ} → n ≡ turnFault m w (s .turn) → n ≡ 0
+  -- Any other is the step of its thread i, which comes to x.
+  pub comes : (i : ThreadId) → ownerOf (s .turn) ≡ i → {may : Bool} → may ≡ (not (w .held) || eqb (w .turn) (s .turn)) → not may ≡ false
       → {x : Moved} → x ≡ moveOf (threadOf i m) (s .rule) (w .shared) (stackOf i (here .stacks))
-      → carried i here s x ≡ stepFrom m here s
-  comes i e f z p = rw (by-turn, ← f, z, fires i e (stackOf (ownerOf (s .turn)) (here .stacks)), e, ← p)
+      → carried i here s x ≡ made m here s
+  unfolding turnFree
+  comes i f {may} e h p = rw (← e, not-false may h, fires i f (stackOf (ownerOf (s .turn)) (here .stacks)), f, ← p)

@@ -1,13 +1,12 @@
 -- Stacks in buffers, and what the walk's functions say in terms of configurations.
-use mathlib.Core.Bool.{Bool, not, _&&_, _||_}
+use mathlib.Core.Bool.{Bool}
 use mathlib.Core.List.{List, [], _∷_}
 use mathlib.Core.Path.{_≡_}
-use Prim.Native.Nat.{ℕ, zero, suc, _+_, _*_, _≤_}
-use lib.Dec.{leb, ltb, eqb}
+use Prim.Native.Nat.{ℕ, zero, suc, _+_, _≤_}
 use lib.ListN.{length, getD}
 use Rattle.model.specs.declared.Model.{Model}
 use Rattle.model.specs.declared.Thread.{Thread}
-use Rattle.model.specs.Results.{Result, refused, accepted, need, andThen, refuse, firstOf}
+use Rattle.model.specs.Results.{Result, refused, accepted, need, andThen}
 use Rattle.model.specs.Rules.{ruleAt, applies, put, heldAt}
 use Rattle.model.specs.Walk.{Config, Step, Walked, startOf, stepFrom}
 use Rattle.walk.specs.declared.Fired.{Fired}
@@ -61,13 +60,6 @@ GrowsBy n w (Refused k) = Unit {0}
 abbrev pub Grows : Walk → Stepped → List ℕ → List ℕ → List ℕ → List ℕ → Type 0
 Grows w (Made v) a b a′ b′ = GrowsBy 1 w (Made v)
 Grows w (Refused n) a b a′ b′ = (a′ ≡ a) × (b′ ≡ b)
-
--- The refusal number of a step's turn, by where the walk is: 9 where it is below the last step's or above 2K−1, then 12 where a turn is
--- left after a held step; 0 for none.
-unfoldable pub turnFault : Model → Walk → ℕ → ℕ
-turnFault m w turn =
-    firstOf
-    (refuse 9 (leb (w .turn) turn && ltb turn (2 * m .k)) ∷ refuse 12 (not (w .held) || eqb (w .turn) turn) ∷ [])
 
 -- What one thread's step makes of the shared state and its stack, and whether its rule is held.
 abbrev pub Moved : Type 0

@@ -1,11 +1,13 @@
 // The walk of a schedule, step by step: the counters by value, the stacks in two lent buffers.
+ghost use mathlib.Core.Bool.{not, _||_};
 ghost use mathlib.Core.Path.{_≡_};
 ghost use Prim.Native.Nat.{_+_, _/_, _<_, _≤_};
+ghost use lib.Dec.{eqb};
 ghost use lib.ListN.{length};
 ghost use Rattle.model.specs.Rules.{put};
 ghost use Rattle.model.specs.Schedules.{stepsOf};
-ghost use Rattle.model.specs.Walk.{stepFrom, walk, hasTop};
-ghost use Rattle.walk.specs.Stack.{topFirst, configOf, walkedOf, walkOn, Counted, Room, Starts, GrowsBy, Grows, turnFault, moveOf, movedOf, Fires};
+ghost use Rattle.model.specs.Walk.{made, stepFrom, walk, hasTop};
+ghost use Rattle.walk.specs.Stack.{topFirst, configOf, walkedOf, walkOn, Counted, Room, Starts, GrowsBy, Grows, moveOf, movedOf, Fires};
 use model::Model;
 use model::Right;
 use model::Thread;
@@ -14,7 +16,7 @@ use model::Top;
 // Where a walk is: the turn of its last step and whether that step's rule is held, the shared state, and how many symbols each stack
 // holds. The stacks themselves are in two buffers, bottom first.
 pub struct Walk {
-    pub turn: u8,
+    pub turn: usize,
     pub held: bool,
     pub shared: u8,
     pub a: usize,
@@ -70,7 +72,7 @@ pub fn steps(start: Walk, m: Model, schedule: &[u8], a: &mut [u8], b: &mut [u8])
     Stepped::Made(w)
 }
 
-// The same steps wherever they end, after a held step too. It is the only loop of steps, and `step` has no other caller.
+// The same steps wherever they end, after a held step too. It is the only loop of a schedule's steps, and `step` has no other caller.
 pub fn run(start: Walk, m: Model, schedule: &[u8], a: &mut [u8], b: &mut [u8]) -> Stepped
     requires { ⌜ Counted m ⌝ ∗ ⌜ Room (length (now schedule) / 2) start (now a) (now b) ⌝ }
     ensures by { λ r. ⌜ walkedOf r (now (a .exit)) (now (b .exit)) ≡
@@ -110,16 +112,33 @@ pub fn has_top(top: Top, depth: usize, stack: &[u8]) -> bool
 }
 
 impl Walk {
-    // One step: its turn first (9, 12), then the rule of that turn's thread (10).
+    // One step of a schedule: its turn number is not below the last step's and at most 2K−1 (9), and then it is made in its turn.
     fn step(self, m: Model, turn: u8, rule: u8, a: &mut [u8], b: &mut [u8]) -> Stepped
         requires { ⌜ Counted m ⌝ ∗ ⌜ Room 1 self (now a) (now b) ⌝ }
         ensures by { λ r. ⌜ walkedOf r (now (a .exit)) (now (b .exit)) ≡
             stepFrom m (configOf self (now (a .entry)) (now (b .entry))) (record { turn = turn; rule = rule }) ⌝ }
         ensures grows { λ r. ⌜ Grows self r (now (a .entry)) (now (b .entry)) (now (a .exit)) (now (b .exit)) ⌝ }
     {
-        let fault = self.turn_fault(m, turn);
-        if fault != 0 {
-            return Stepped::Refused(fault);
+        let at = turn as usize;
+        if at < self.turn {
+            return Stepped::Refused(9);
+        }
+        if 2 * (m.k as usize) <= at {
+            return Stepped::Refused(9);
+        }
+        self.make(m, at, rule, a, b)
+    }
+
+    // A step made in its turn, whatever that turn's number is: no turn is left after a held step (12), and then the rule of the turn's
+    // thread must apply (10).
+    pub fn make(self, m: Model, turn: usize, rule: u8, a: &mut [u8], b: &mut [u8]) -> Stepped
+        requires { ⌜ Counted m ⌝ ∗ ⌜ Room 1 self (now a) (now b) ⌝ }
+        ensures by { λ r. ⌜ walkedOf r (now (a .exit)) (now (b .exit)) ≡
+            made m (configOf self (now (a .entry)) (now (b .entry))) (record { turn = turn; rule = rule }) ⌝ }
+        ensures grows { λ r. ⌜ Grows self r (now (a .entry)) (now (b .entry)) (now (a .exit)) (now (b .exit)) ⌝ }
+    {
+        if !self.may_step(turn) {
+            return Stepped::Refused(12);
         }
         if turn % 2 == 0 {
             match fire(m.a, rule, self.shared, self.a, a) {
@@ -146,23 +165,11 @@ impl Walk {
         }
     }
 
-    // Refusal 9 for a turn number below the last step's or above 2K−1, then 12 for a turn left after a held step.
-    fn turn_fault(self, m: Model, turn: u8) -> u8
-        ensures { λ n. ⌜ n ≡ turnFault m self turn ⌝ }
+    // No turn is left after a held step.
+    fn may_step(self, turn: usize) -> bool
+        ensures { λ r. ⌜ r ≡ (not (self .held) || eqb (self .turn) turn) ⌝ }
     {
-        let turns = 2 * (m.k as usize);
-        if turn < self.turn {
-            return 9;
-        }
-        if turns <= turn as usize {
-            return 9;
-        }
-        if self.held {
-            if self.turn != turn {
-                return 12;
-            }
-        }
-        0
+        !self.held || self.turn == turn
     }
 }
 

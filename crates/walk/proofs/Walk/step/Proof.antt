@@ -1,91 +1,42 @@
--- `step` meets its contract: `turn_fault` decides by the turn number, its parity picks the thread, and `fire` makes
--- that thread's step.
-use mathlib.Core.Path.{refl}
-use native.Mathlib.Omega.{arith}
+-- `step` meets its contract: its tests are those of the turn number, and `make` does the rest.
 use borrow.Author.Needs.{needs}
-use Rattle.model.proofs.Owners.{even-turn, odd-turn}
-use Rattle.model.specs.declared.ThreadId.the-variants.{A, B}
-use Rattle.walk.proofs.Stepping.{refuses, comes}
+use borrow.Author.Tests.{le-leb, lt-ltb}
+use Rattle.model.specs.Walk.{stepFrom, turnFits}
+use Rattle.model.proofs.Tests.{decided}
 use Rattle.walk.proofs.Walk.step.Statement.{statement}
 use Rattle.walk.proofs.Walk.step.Tie as tie
 
-turn-fault-requires : tie.Need-turn-fault-requires
-turn-fault-requires c κs = search needs
-
 returns : tie.Need-returns
-returns c = (refuses _ _ _ _ _ (c .before .turn-fault .ensures) (c .if1 .taken), search needs)
+unfolding stepFrom turnFits
+returns c = (search decided, search needs)
 
-fire-requires : tie.Need-fire-requires
-fire-requires c κs = search needs
+cast-if2 : tie.Need-cast-if2
+cast-if2 c = search needs
 
-enum-known-held : tie.Need-enum-known-held
-enum-known-held c = search needs
+mul-if2 : tie.Need-mul-if2
+mul-if2 c = search needs
 
-enum-told : tie.Need-enum-told
-enum-told c = search needs
+returns-2 : tie.Need-returns-2
+unfolding stepFrom turnFits
+returns-2 c = (search decided, search needs)
 
-fire-requires-2 : tie.Need-fire-requires-2
-fire-requires-2 c κs = search needs
-
-enum-known-held-2 : tie.Need-enum-known-held-2
-enum-known-held-2 c = search needs
-
-enum-told-2 : tie.Need-enum-told-2
-enum-told-2 c = search needs
+make-requires : tie.Need-make-requires
+make-requires c κs = search needs
 
 same-length : tie.Need-same-length
 same-length c = search needs
-
-returns-2 : tie.Need-returns-2
-returns-2 c =
-    let d = c .before .before .before .before .before in
-    let left = rw (c .before .held .given .1) at (d .fire .ensures) in
-    (comes _ _ _ _ _ A (even-turn _ (d .before .before .if2 .taken)) (d .before .before .before .before .turn-fault .ensures) (d .before .before .before .if1 .left) (left .0), (left .1, omega arith))
 
 same-length-2 : tie.Need-same-length-2
 same-length-2 c = search needs
 
 returns-3 : tie.Need-returns-3
+unfolding stepFrom turnFits
 returns-3 c =
     let d = c .before .before .before .before in
-    let left = rw (c .enum-told .given .1) at (d .fire .ensures) in
-    (comes _ _ _ _ _ A (even-turn _ (d .before .before .if2 .taken)) (d .before .before .before .before .turn-fault .ensures) (d .before .before .before .if1 .left) (left .0), (left .1, refl))
-
-same-length-3 : tie.Need-same-length-3
-same-length-3 c = search needs
-
-returns-4 : tie.Need-returns-4
-returns-4 c =
-    let d = c .before .before .before .before .before in
-    let left = rw (c .before .held2 .given .1) at (d .fire2 .ensures) in
-    (comes _ _ _ _ _ B (odd-turn _ (d .before .before .if2 .left)) (d .before .before .before .before .turn-fault .ensures) (d .before .before .before .if1 .left) (left .0), (omega arith, left .1))
-
-same-length-4 : tie.Need-same-length-4
-same-length-4 c = search needs
-
-returns-5 : tie.Need-returns-5
-returns-5 c =
-    let d = c .before .before .before .before in
-    let left = rw (c .enum-told2 .given .1) at (d .fire2 .ensures) in
-    (comes _ _ _ _ _ B (odd-turn _ (d .before .before .if2 .left)) (d .before .before .before .before .turn-fault .ensures) (d .before .before .before .if1 .left) (left .0), (refl, left .1))
+    let tests = d .before .before .before in
+    (rw (le-leb _ _ (tests .before .before .if1 .left), lt-ltb _ _ (tests .if2 .left)) (d .make .ensures .0), d .make .ensures .1)
 
 pub step-spec : {M : Type 1} → statement M
 step-spec =
     tie.close
-    (tie.spec
-    turn-fault-requires
-    returns
-    fire-requires
-    enum-known-held
-    enum-told
-    fire-requires-2
-    enum-known-held-2
-    enum-told-2
-    same-length
-    returns-2
-    same-length-2
-    returns-3
-    same-length-3
-    returns-4
-    same-length-4
-    returns-5)
+    (tie.spec returns cast-if2 mul-if2 returns-2 make-requires same-length same-length-2 returns-3)
