@@ -1,5 +1,6 @@
 // Before anything is timed: both sides must say the same of a model and write the same schedule, which must reach the target on both, not
-// before its last step and as deep as the verdict says, and give the same page; and both must make the same one of two models.
+// before its last step and as deep as the verdict says, and give the same page, and its log the same state in no more rounds; and both must
+// make the same one of two models.
 use crate::{numbers, proved, reference};
 
 pub fn agree(record: &[u8]) -> Result<(), String> {
@@ -36,11 +37,24 @@ fn same_schedule(record: &[u8], steps: &[u8], found: u64) -> Result<(), String> 
     if numbers::depths(last) != numbers::depths(found) {
         return Err(format!("judge says {found}, and replay of its schedule {last}"));
     }
+    same_log(record, steps, last)?;
     // without its last step it stops elsewhere, or no turn may end there
     if let Some(short) = steps.len().checked_sub(2) {
         same_replay(record, &steps[..short], &[numbers::STOPPED, numbers::HELD])?;
     }
     same_page(record, steps)
+}
+
+// What both sides say of a schedule's log: the state that replay gave, and no more rounds than the schedule has.
+fn same_log(record: &[u8], schedule: &[u8], last: u64) -> Result<(), String> {
+    let log = numbers::log(schedule);
+    let followed = (proved::follow(record, &log), reference::follow(record, &log));
+    let rounds = schedule.chunks_exact(2).last().map_or(0, |step| u64::from(step[0]) / 2 + 1);
+    let most = numbers::packed(numbers::FOLLOWED, last >> 16 & 0xFFFF | rounds << 16);
+    if followed.0 != followed.1 || followed.0 & 0xFFFF_FFFF != most & 0xFFFF_FFFF || followed.0 > most {
+        return Err(format!("follow says {} and {}", followed.0, followed.1));
+    }
+    Ok(())
 }
 
 // What both sides say of a schedule, depths included. It is of one of these kinds.

@@ -17,10 +17,11 @@ struct Pair {
     plain: f64,
 }
 
-// A model's record, and the schedule that the proved library writes for it: empty where there is none.
+// A model's record, the schedule that the proved library writes for it, empty where there is none, and that schedule's log.
 struct Case {
     record: Vec<u8>,
     schedule: Vec<u8>,
+    log: Vec<u8>,
 }
 
 // A row of a table: a call on the models of a family.
@@ -35,11 +36,12 @@ type Call = fn(&Case) -> Pair;
 
 // The calls, and which families with tops, and which with held rules, have a row: all for the judgement, and for each other call the
 // dense ones with some in both threads.
-const CALLS: [(&str, Call, RangeInclusive<usize>, RangeInclusive<usize>); 6] = [
+const CALLS: [(&str, Call, RangeInclusive<usize>, RangeInclusive<usize>); 7] = [
     ("judgement", judgement, 0..=3, 0..=5),
     ("line table", line_table, 1..=1, 1..=1),
     ("replay", replay, 1..=1, 1..=1),
     ("page", page, 1..=1, 1..=1),
+    ("follow", follow, 1..=1, 1..=1),
     ("read", read, 1..=1, 1..=1),
     ("merge", merge, 1..=1, 1..=1),
 ];
@@ -147,7 +149,8 @@ impl Case {
         let mut schedule = vec![0; 8190];
         let answer = proved::judge(record, &mut [0; 683], &mut schedule);
         schedule.truncate(2 * numbers::steps(answer));
-        Case { record: record.to_vec(), schedule }
+        let log = numbers::log(&schedule);
+        Case { record: record.to_vec(), schedule, log }
     }
 }
 
@@ -181,6 +184,13 @@ fn page(case: &Case) -> Pair {
     best(
         || proved::page(black_box(&case.record), &case.schedule, &mut store),
         || reference::page(black_box(&case.record), &case.schedule, &mut other),
+    )
+}
+
+fn follow(case: &Case) -> Pair {
+    best(
+        || proved::follow(black_box(&case.record), &case.log),
+        || reference::follow(black_box(&case.record), &case.log),
     )
 }
 

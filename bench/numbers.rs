@@ -1,5 +1,5 @@
 // The numbers that the calls answer: a kind in the low byte, and what it carries from bit 16 on. A refusal's kind is its own number. The
-// depths of A and of B, where a number has them, stand from bit 32 and from bit 48 on.
+// depths of A and of B, where a number has them, stand from bit 32 and from bit 48 on, and the rounds of a log from bit 32 on.
 pub const DONE: u64 = 0;
 pub const HELD: u64 = 12;
 pub const WRITTEN: u64 = 32;
@@ -9,6 +9,7 @@ pub const FOUND: u64 = 35;
 pub const STOPPED: u64 = 36;
 pub const REACHED: u64 = 37;
 pub const PAGED: u64 = 40;
+pub const FOLLOWED: u64 = 41;
 
 // The bytes of the longest record.
 pub const RECORD: usize = 670;
@@ -42,6 +43,11 @@ pub fn steps(number: u64) -> usize {
     } else {
         0
     }
+}
+
+// The log of a schedule: a byte a step, bit 7 for B and the rule's number below.
+pub fn log(schedule: &[u8]) -> Vec<u8> {
+    schedule.chunks_exact(2).map(|step| step[0] % 2 << 7 | step[1]).collect()
 }
 
 // Both depths of a number that has them.

@@ -6,6 +6,7 @@ extern "C" {
     fn turncheck_judge(record: *const u8, n: usize, store: *mut u8, m: usize, schedule: *mut u8, l: usize) -> u64;
     fn turncheck_replay(record: *const u8, n: usize, schedule: *const u8, l: usize) -> u64;
     fn turncheck_page(record: *const u8, n: usize, schedule: *const u8, l: usize, store: *mut u8, m: usize) -> u64;
+    fn turncheck_follow(record: *const u8, n: usize, log: *const u8, l: usize) -> u64;
 }
 
 // Each call is handed the places and lengths of slices that live as long as it runs; its contract asks for no more.
@@ -26,6 +27,10 @@ pub fn lines(record: &[u8], store: &mut [u8]) -> u64 {
 pub fn judge(record: &[u8], store: &mut [u8], schedule: &mut [u8]) -> u64 {
     let (n, m, l) = (record.len(), store.len(), schedule.len());
     unsafe { turncheck_judge(record.as_ptr(), n, store.as_mut_ptr(), m, schedule.as_mut_ptr(), l) }
+}
+
+pub fn follow(record: &[u8], log: &[u8]) -> u64 {
+    unsafe { turncheck_follow(record.as_ptr(), record.len(), log.as_ptr(), log.len()) }
 }
 
 pub fn replay(record: &[u8], schedule: &[u8]) -> u64 {

@@ -10,7 +10,7 @@ mod walk;
 mod witness;
 mod writer;
 
-use crate::numbers::{packed, with_depths, CLEAR, DONE, FOUND, LONG, PAGED, REACHED, STOPPED, WRITTEN};
+use crate::numbers::{packed, with_depths, CLEAR, DONE, FOLLOWED, FOUND, LONG, PAGED, REACHED, STOPPED, WRITTEN};
 
 #[derive(Clone, Copy)]
 pub enum Right {
@@ -118,6 +118,13 @@ pub fn replay(record: &[u8], schedule: &[u8]) -> u64 {
     };
     match walk::walk(&model, schedule) {
         Ok(last) => with_depths(if last.target { REACHED } else { STOPPED }, last.shared, last.depths),
+        Err(number) => number,
+    }
+}
+
+pub fn follow(record: &[u8], log: &[u8]) -> u64 {
+    match record::read(record).and_then(|model| walk::follow(&model, log)) {
+        Ok((shared, rounds)) => packed(FOLLOWED, (shared | rounds << 16) as u64),
         Err(number) => number,
     }
 }

@@ -1,4 +1,4 @@
-// The walk of a schedule from the start.
+// The walk of a schedule from the start, and that of a log.
 use super::{Model, Right};
 
 // Where a walk is: the turn of its last step and whether that step was held, and the shared state. The stacks are apart from it,
@@ -38,6 +38,25 @@ pub fn walk(m: &Model, schedule: &[u8]) -> Result<Last, u64> {
     Ok(Last { shared: walk.shared, target, depths })
 }
 
+// The last shared state and the fewest rounds of a log, each step of which is made in the earliest turn of its thread.
+pub fn follow(m: &Model, log: &[u8]) -> Result<(usize, usize), u64> {
+    if log.len() > 4095 {
+        return Err(18);
+    }
+    let (mut walk, mut stacks) = Walk::start(m);
+    for byte in log.iter().map(|byte| usize::from(*byte)) {
+        if byte & 0x40 != 0 {
+            return Err(18);
+        }
+        let turn = walk.turn + (walk.turn + byte / 128) % 2;
+        walk.make(m, turn, byte % 64, &mut stacks)?;
+    }
+    if walk.held {
+        return Err(12);
+    }
+    Ok((walk.shared, if log.is_empty() { 0 } else { walk.turn / 2 + 1 }))
+}
+
 // Whether a stack has the top that is asked for. An empty one has none.
 fn has_top(top: Option<usize>, stack: &[usize]) -> bool {
     top.is_none() || stack.last() == top.as_ref()
@@ -48,19 +67,25 @@ impl Walk {
         (Walk { turn: 0, held: false, shared: m.start }, [vec![m.a.first], vec![m.b.first]])
     }
 
-    // Inline in both loops that call it, so that replay takes no longer than if it were alone.
+    // Inline in the loops that call it, so that replay takes no longer than if it were alone, and so is what it calls.
     #[inline(always)]
     pub fn step(&mut self, m: &Model, step: &[u8], stacks: &mut Stacks) -> Result<(), u64> {
         let turn = step[0] as usize;
         if turn < self.turn || 2 * m.k <= turn {
             return Err(9);
         }
+        self.make(m, turn, step[1] as usize, stacks)
+    }
+
+    // A step in its turn, whatever the turn's number.
+    #[inline(always)]
+    fn make(&mut self, m: &Model, turn: usize, rule: usize, stacks: &mut Stacks) -> Result<(), u64> {
         if self.held && self.turn != turn {
             return Err(12);
         }
         self.turn = turn;
         let thread = if turn % 2 == 0 { &m.a } else { &m.b };
-        let rule = thread.rules.get(step[1] as usize).ok_or(10u64)?;
+        let rule = thread.rules.get(rule).ok_or(10u64)?;
         let stack = &mut stacks[turn % 2];
         if rule.before != self.shared || stack.last() != Some(&rule.symbol) {
             return Err(10);

@@ -59,7 +59,8 @@ fn steps(start: Walk, m: Model, log: &[u8], a: &mut [u8], b: &mut [u8]) -> Stepp
     Stepped::Made(w)
 }
 
-// The step of one byte, in the earliest turn that it can have: bit 6 is zero (18), and then it is made in that turn.
+// The step of one byte, in the earliest turn that it can have: bit 6 is zero (18), the thread does not change after a held step (12), and then
+// the thread makes it (10).
 fn step(w: Walk, m: Model, byte: u8, a: &mut [u8], b: &mut [u8]) -> Stepped
     requires { ⌜ Counted m ⌝ ∗ ⌜ Room 1 w (now a) (now b) ⌝ ∗ ⌜ w .turn < 65536 ⌝ }
     ensures by { λ r. ⌜ walkedOf r (now (a .exit)) (now (b .exit)) ≡
@@ -70,7 +71,14 @@ fn step(w: Walk, m: Model, byte: u8, a: &mut [u8], b: &mut [u8]) -> Stepped
         return Stepped::Refused(18);
     }
     let turn = turn_from(w.turn, byte);
-    w.make(m, turn, byte % 64, a, b)
+    if !w.may_step(turn) {
+        return Stepped::Refused(12);
+    }
+    if turn % 2 == 0 {
+        w.after_a(turn, walk::fire(m.a, byte % 64, w.shared, w.a, a))
+    } else {
+        w.after_b(turn, walk::fire(m.b, byte % 64, w.shared, w.b, b))
+    }
 }
 
 // The earliest turn of a byte's thread, from a turn on.

@@ -3,6 +3,7 @@ use mathlib.Core.Bool.{Bool, true, false, not, _||_}
 use mathlib.Core.List.{List, [], _∷_}
 use mathlib.Core.Path.{_≡_, refl}
 use Prim.Native.Nat.{ℕ}
+use native.Mathlib.Omega.{arith}
 use borrow.Author.Tests.{not-true, not-false}
 use lib.Dec.{eqb}
 use Rattle.model.specs.declared.Model.{Model}
@@ -10,8 +11,11 @@ use Rattle.model.specs.Results.{refused, accepted, andThen, need}
 use Rattle.model.specs.Rules.{applies}
 use Rattle.model.specs.Walk.{ownerOf, threadOf, stackOf, withStack, Config, Step, Walked, turnFree, fire, made}
 use Rattle.model.specs.declared.ThreadId.{ThreadId}
+use Rattle.model.specs.declared.ThreadId.the-variants.{A, B}
+use Rattle.walk.specs.declared.Fired.{Fired}
+use Rattle.walk.specs.declared.Fired.the-variants.{Done, Stuck}
 use Rattle.walk.specs.declared.Walk.{Walk}
-use Rattle.walk.specs.Stack.{configOf, Moved, moveOf}
+use Rattle.walk.specs.Stack.{topFirst, configOf, walkedOf, Grows, Moved, moveOf, movedOf, Fires, afterA, afterB}
 
 -- What the step of a thread comes to as a step of the walk.
 abbrev pub carried : ThreadId → Config → Step → Moved → Walked
@@ -47,3 +51,19 @@ module _ (m : Model) (w : Walk) (a b : List ℕ) (s : Step) where
       → carried i here s x ≡ made m here s
   unfolding turnFree
   comes i f {may} e h p = rw (← e, not-false may h, fires i f (stackOf (ownerOf (s .turn)) (here .stacks)), f, ← p)
+
+-- A step of A, made on its stack in the buffer a, and one of B, is that of the walk: it comes to the walk's next configuration, with at most
+-- one symbol more, or is refused and leaves the buffers as they were.
+module _ (m : Model) (w : Walk) (a b : List ℕ) (s : Step) {may : Bool}
+    (e : may ≡ (not (w .held) || eqb (w .turn) (s .turn))) (h : not may ≡ false) where
+  pub by-a : ownerOf (s .turn) ≡ A → (f : Fired) (a′ : List ℕ)
+      → (movedOf f a′ ≡ moveOf (threadOf A m) (s .rule) (w .shared) (topFirst (w .a) a)) × Fires (w .a) f a a′
+      → (walkedOf (afterA w (s .turn) f) a′ b ≡ made m (configOf w a b) s) × Grows w (afterA w (s .turn) f) a b a′ b
+  by-a o (Done held shared n) a′ p = (comes m w a b s A o e h (p .0), (p .1, omega arith))
+  by-a o Stuck a′ p = (comes m w a b s A o e h (p .0), (p .1, refl))
+
+  pub by-b : ownerOf (s .turn) ≡ B → (f : Fired) (b′ : List ℕ)
+      → (movedOf f b′ ≡ moveOf (threadOf B m) (s .rule) (w .shared) (topFirst (w .b) b)) × Fires (w .b) f b b′
+      → (walkedOf (afterB w (s .turn) f) a b′ ≡ made m (configOf w a b) s) × Grows w (afterB w (s .turn) f) a b a b′
+  by-b o (Done held shared n) b′ p = (comes m w a b s B o e h (p .0), (omega arith, p .1))
+  by-b o Stuck b′ p = (comes m w a b s B o e h (p .0), (refl, p .1))

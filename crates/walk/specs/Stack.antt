@@ -80,3 +80,13 @@ movedOf Stuck l = refused 10
 abbrev pub Fires : ℕ → Fired → List ℕ → List ℕ → Type 0
 Fires depth (Done held shared n) l l′ = n ≤ depth + 1
 Fires depth Stuck l l′ = l′ ≡ l
+
+-- What a step of A in a turn comes to, by what it made of A's stack ..
+abbrev pub afterA : Walk → ℕ → Fired → Stepped
+afterA w turn (Done held shared n) = Made (record { turn = turn; held = held; shared = shared; a = n; b = w .b })
+afterA w turn Stuck = Refused 10
+
+-- .. and one of B.
+abbrev pub afterB : Walk → ℕ → Fired → Stepped
+afterB w turn (Done held shared n) = Made (record { turn = turn; held = held; shared = shared; a = w .a; b = n })
+afterB w turn Stuck = Refused 10

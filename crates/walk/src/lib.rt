@@ -6,8 +6,9 @@ ghost use lib.Dec.{eqb};
 ghost use lib.ListN.{length};
 ghost use Rattle.model.specs.Rules.{put};
 ghost use Rattle.model.specs.Schedules.{stepsOf};
-ghost use Rattle.model.specs.Walk.{made, stepFrom, walk, hasTop};
-ghost use Rattle.walk.specs.Stack.{topFirst, configOf, walkedOf, walkOn, Counted, Room, Starts, GrowsBy, Grows, moveOf, movedOf, Fires};
+ghost use Rattle.model.specs.Walk.{stepFrom, walk, hasTop};
+ghost use Rattle.walk.specs.Stack.{topFirst, configOf, walkedOf, walkOn, Counted, Room, Starts, GrowsBy, Grows};
+ghost use Rattle.walk.specs.Stack.{moveOf, movedOf, Fires, afterA, afterB};
 use model::Model;
 use model::Right;
 use model::Thread;
@@ -112,7 +113,8 @@ pub fn has_top(top: Top, depth: usize, stack: &[u8]) -> bool
 }
 
 impl Walk {
-    // One step of a schedule: its turn number is not below the last step's and at most 2K−1 (9), and then it is made in its turn.
+    // One step of a schedule: its turn number is not below the last step's and at most 2K−1 (9), no turn is left after a held step (12), and
+    // then the turn's thread makes it (10).
     fn step(self, m: Model, turn: u8, rule: u8, a: &mut [u8], b: &mut [u8]) -> Stepped
         requires { ⌜ Counted m ⌝ ∗ ⌜ Room 1 self (now a) (now b) ⌝ }
         ensures by { λ r. ⌜ walkedOf r (now (a .exit)) (now (b .exit)) ≡
@@ -126,55 +128,58 @@ impl Walk {
         if 2 * (m.k as usize) <= at {
             return Stepped::Refused(9);
         }
-        self.make(m, at, rule, a, b)
-    }
-
-    // A step made in its turn, whatever that turn's number is: no turn is left after a held step (12), and then the rule of the turn's
-    // thread must apply (10).
-    pub fn make(self, m: Model, turn: usize, rule: u8, a: &mut [u8], b: &mut [u8]) -> Stepped
-        requires { ⌜ Counted m ⌝ ∗ ⌜ Room 1 self (now a) (now b) ⌝ }
-        ensures by { λ r. ⌜ walkedOf r (now (a .exit)) (now (b .exit)) ≡
-            made m (configOf self (now (a .entry)) (now (b .entry))) (record { turn = turn; rule = rule }) ⌝ }
-        ensures grows { λ r. ⌜ Grows self r (now (a .entry)) (now (b .entry)) (now (a .exit)) (now (b .exit)) ⌝ }
-    {
-        if !self.may_step(turn) {
+        if !self.may_step(at) {
             return Stepped::Refused(12);
         }
-        if turn % 2 == 0 {
-            match fire(m.a, rule, self.shared, self.a, a) {
-                Fired::Done(held, shared, n) => Stepped::Made(Walk {
-                    turn,
-                    held,
-                    shared,
-                    a: n,
-                    b: self.b,
-                }),
-                Fired::Stuck => Stepped::Refused(10),
-            }
+        if at % 2 == 0 {
+            self.after_a(at, fire(m.a, rule, self.shared, self.a, a))
         } else {
-            match fire(m.b, rule, self.shared, self.b, b) {
-                Fired::Done(held, shared, n) => Stepped::Made(Walk {
-                    turn,
-                    held,
-                    shared,
-                    a: self.a,
-                    b: n,
-                }),
-                Fired::Stuck => Stepped::Refused(10),
-            }
+            self.after_b(at, fire(m.b, rule, self.shared, self.b, b))
         }
     }
 
     // No turn is left after a held step.
-    fn may_step(self, turn: usize) -> bool
+    pub fn may_step(self, turn: usize) -> bool
         ensures { λ r. ⌜ r ≡ (not (self .held) || eqb (self .turn) turn) ⌝ }
     {
         !self.held || self.turn == turn
     }
+
+    // Where the walk is after a step of A in a turn, by what it made of A's stack (10 where it is stuck) ..
+    pub fn after_a(self, turn: usize, fired: Fired) -> Stepped
+        ensures { λ r. ⌜ r ≡ afterA self turn fired ⌝ }
+    {
+        match fired {
+            Fired::Done(held, shared, n) => Stepped::Made(Walk {
+                turn,
+                held,
+                shared,
+                a: n,
+                b: self.b,
+            }),
+            Fired::Stuck => Stepped::Refused(10),
+        }
+    }
+
+    // .. and after one of B.
+    pub fn after_b(self, turn: usize, fired: Fired) -> Stepped
+        ensures { λ r. ⌜ r ≡ afterB self turn fired ⌝ }
+    {
+        match fired {
+            Fired::Done(held, shared, n) => Stepped::Made(Walk {
+                turn,
+                held,
+                shared,
+                a: self.a,
+                b: n,
+            }),
+            Fired::Stuck => Stepped::Refused(10),
+        }
+    }
 }
 
-// A thread's step on its own stack: stuck where the stack is empty, the rule is not in its list or does not apply.
-fn fire(t: Thread, rule: u8, shared: u8, depth: usize, stack: &mut [u8]) -> Fired
+// A thread's step on its own stack, by a rule: stuck where the stack is empty, the rule is not in its list or does not apply.
+pub fn fire(t: Thread, rule: u8, shared: u8, depth: usize, stack: &mut [u8]) -> Fired
     requires { ⌜ t .count ≤ 64 ⌝ ∗ ⌜ depth < length (now stack) ⌝ }
     ensures by { λ r. ⌜ movedOf r (now (stack .exit)) ≡ moveOf t rule shared (topFirst depth (now (stack .entry))) ⌝ }
     ensures grows { λ r. ⌜ Fires depth r (now (stack .entry)) (now (stack .exit)) ⌝ }
