@@ -1,6 +1,6 @@
 -- A log is accepted exactly if it has a placing, and with the fewest rounds of any: the turns of its own placing are the earliest. A placing
 -- within K rounds is a schedule that replay accepts, since more rounds take no step away.
-use mathlib.Core.Bool.{not}
+use mathlib.Core.Bool.{Bool, not}
 use mathlib.Core.List.{List, [], _∷_}
 use mathlib.Core.Logic.{_↔_}
 use mathlib.Core.Path.{_≡_, refl, sym, ap, _∙_}
@@ -165,3 +165,11 @@ replays {m} {log} {n} {q} {ss} v h x k =
       target = refl;
       deep = refl;
     })
+
+-- So a log that takes at most K rounds has a placing that replay accepts, with the state that was given for the log.
+pub log-replays : (m : Model) (log : List ℕ) (q : Shared) (n : ℕ) → Bytes log → followedOf m log ≡ Accepted q n → n ≤ m .k
+    → (ss : List Step) × (logOf ss ≡ log) × (reached : Bool) × (replayOf m (bytesOf ss) ≡ replayed.Accepted q reached (depthsOf m ss))
+log-replays m log q n small e k =
+    let f = accepted-fewest m log q n small e in
+    let x = f .placing in
+    (f .steps, x .logged, atTarget m (q .0) (x .stacks), replays (f .valid) (f .most) x k)

@@ -1,5 +1,5 @@
--- Logs: what running one against a model comes to, byte by byte, with the number of each refusal. A log has a byte for each step: bit 7 is
--- set for B, bit 6 is zero, and below them stands the number of the rule.
+-- Logs: what following one against a model comes to, byte by byte, with the number of each refusal. A log is the trace of a run, without its
+-- context switches. It has a byte for each step: bit 7 is set for B, bit 6 is zero, and below them stands the number of the rule.
 use mathlib.Core.Bool.{not}
 use mathlib.Core.List.{List, [], _∷_}
 use Prim.Native.Nat.{ℕ, zero, suc, _+_, _/_, _%_}

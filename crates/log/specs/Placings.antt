@@ -1,4 +1,5 @@
--- Placings: the schedules that a log may stand for. They say what the rounds of a log are, apart from how they are found.
+-- Placings: the schedules that a log may stand for, each of its steps in some turn (context). They say what the rounds of a log are, apart
+-- from how they are found.
 use mathlib.Core.List.{List, [], _∷_}
 use mathlib.Core.Path.{_≡_}
 use Prim.Native.Nat.{ℕ, _+_, _*_, _%_, _≤_}
