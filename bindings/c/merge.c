@@ -1,33 +1,8 @@
 /* Makes two models one: `merge FIRST SECOND > WHOLE` reads the records in two files and writes that of their model to standard output.
  * Where that is refused, it writes nothing there, says `refused N` on standard error, and its exit status is N, 1 to 17. Where it
  * cannot do its work, as where a file cannot be read or the output cannot be written, it says why, and the status is above 63. */
-#include "../turncheck.h"
-
-#include <stdio.h>
-#include <stdlib.h>
-
-/* A byte more than the longest record: a longer file is refused by the same number as its front. */
-enum { MOST = TURNCHECK_RECORD_BYTES + 1 };
-
-enum { USAGE = 64, NO_INPUT = 66, UNKNOWN = 70, NO_OUTPUT = 74 };
-
-struct file {
-    uint8_t bytes[MOST];
-    size_t size;
-};
-
-static void fail(int status, const char *what, const char *which) {
-    fprintf(stderr, "merge: %s%s\n", what, which);
-    exit(status);
-}
-
-static void load(const char *path, struct file *f) {
-    FILE *file = fopen(path, "rb");
-    if (file == NULL) fail(NO_INPUT, "cannot open ", path);
-    f->size = fread(f->bytes, 1, MOST, file);
-    if (ferror(file)) fail(NO_INPUT, "cannot read ", path);
-    fclose(file);
-}
+#define PROGRAM "merge"
+#include "files.h"
 
 int main(int count, char **arguments) {
     static struct file first, second;

@@ -17,8 +17,8 @@ use Rattle.model.proofs.Steps.{Stepped, steps, stepped}
 use Rattle.model.proofs.Tests.{passed}
 use Rattle.log.specs.Log.{earliest, byteFrom, bytesFrom}
 use Rattle.log.specs.Placings.{recorded, logOf, inRounds}
-use Rattle.log.proofs.Bytes.{not-before, same-thread, made-step}
-use Rattle.log.proofs.Earliest.{right-parity, not-after, itself, same-owner}
+use Rattle.log.proofs.Bytes.{same-thread, made-step}
+use Rattle.log.proofs.Earliest.{not-before, right-parity, not-after, itself, same-owner}
 
 -- The log's walk at c and a placing at d.
 pub record Behind (c d : Config) : Type 0 where

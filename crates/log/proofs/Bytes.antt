@@ -1,4 +1,5 @@
--- One byte of a log: it is made in a turn that is not before the last one and at most one later, of the thread that its high bit says.
+-- One byte of a log, and the rounds of several: what a step does goes by its thread and not by the number of rounds, so a byte that is accepted
+-- is a step of the walk with as many rounds as it takes.
 use mathlib.Core.List.{List, [], _∷_}
 use mathlib.Core.Path.{_≡_, refl, ap, _∙_}
 use Prim.Native.Nat.{ℕ, zero, suc, _+_, _*_, _/_, _%_, _≤_, _<_}
@@ -12,18 +13,9 @@ use Rattle.model.specs.Results.{accepted}
 use Rattle.model.specs.Walk.{ownerOf, threadOf, Config, Step, turnFits, fire, made, stepFrom}
 use Rattle.model.proofs.Results.{checked}
 use Rattle.model.proofs.Steps.{stepped}
-use Rattle.log.specs.Log.{earliest, stepBy, byteFrom, roundsBy}
+use Rattle.log.specs.Log.{stepBy, byteFrom, roundsBy}
 use Rattle.log.specs.Placings.{inRounds}
-
--- The earliest turn is not before the given one ..
-pub not-before : (turn odd : ℕ) → turn ≤ earliest turn odd
-unfolding earliest
-not-before turn odd = omega arith
-
--- .. and at most the next.
-pub next-most : (turn odd : ℕ) → earliest turn odd ≤ turn + 1
-unfolding earliest
-next-most turn odd = omega arith
+use Rattle.log.proofs.Earliest.{not-before}
 
 -- With another number of rounds the threads are the same ..
 pub same-thread : (n : ℕ) (m : Model) (i : ThreadId) → threadOf i (inRounds n m) ≡ threadOf i m
@@ -42,12 +34,13 @@ pub made-step : (n : ℕ) (m : Model) (c : Config) (s : Step) → c .turn ≤ s 
 unfolding stepFrom turnFits
 made-step n m c s h k = rw (le-leb _ _ h, lt-ltb _ _ k, same-fire n m c s)
 
--- What a byte that is accepted has met: bit 6 is zero, and its step is made.
+-- Bit 6 of a byte is zero, and its step is made, in its turn.
 pub record Taken (m : Model) (c : Config) (byte : ℕ) (d : Config) : Type 0 where
   pub low : byte / 64 % 2 ≡ 0
   pub made : made m c (stepBy c byte) ≡ accepted d
   pub turn : d .turn ≡ stepBy c byte .turn
 
+-- A byte that is accepted has met this.
 pub taken : (m : Model) (c : Config) (byte : ℕ) {d : Config} → byteFrom m c byte ≡ accepted d → Taken m c byte d
 unfolding byteFrom
 taken m c byte {d} e =

@@ -1,13 +1,23 @@
--- The earliest turn of a thread: the high bit says its parity, so the log of the step that a byte stands for is that byte; and no turn of
--- that thread from the last one on is before it.
+-- The earliest turn of a thread from a turn on: it is that turn or the next; the high bit of a byte says its parity, so the log of the step
+-- that the byte stands for is that byte; and no turn of that thread is before it.
 use mathlib.Core.Path.{_≡_}
-use Prim.Native.Nat.{ℕ, _/_, _%_, _≤_, _<_}
+use Prim.Native.Nat.{ℕ, _+_, _/_, _%_, _≤_, _<_}
 use native.Mathlib.Decide.{ℕ-discrete}
 use native.Mathlib.Omega.{arith}
 use Rattle.model.specs.Walk.{Config, ownerOf}
 use Rattle.model.proofs.Owners.{even-turn, odd-turn}
 use Rattle.log.specs.Log.{earliest, stepBy}
 use Rattle.log.specs.Placings.{recorded}
+
+-- The earliest turn is not before the given one ..
+pub not-before : (turn odd : ℕ) → turn ≤ earliest turn odd
+unfolding earliest
+not-before turn odd = omega arith
+
+-- .. and at most the next.
+pub next-most : (turn odd : ℕ) → earliest turn odd ≤ turn + 1
+unfolding earliest
+next-most turn odd = omega arith
 
 -- Its number leaves the remainder that is asked for ..
 pub right-parity : (turn odd : ℕ) → odd < 2 → earliest turn odd % 2 ≡ odd

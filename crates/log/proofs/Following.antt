@@ -13,7 +13,8 @@ use Rattle.model.specs.Results.{refused, accepted}
 use Rattle.walk.specs.declared.Walk.{Walk}
 use Rattle.walk.specs.Stack.{configOf}
 use Rattle.log.specs.Log.{byteFrom, bytesFrom}
-use Rattle.log.proofs.Bytes.{next-most, taken}
+use Rattle.log.proofs.Bytes.{taken}
+use Rattle.log.proofs.Earliest.{next-most}
 
 -- Where the walk is before byte i, and that the rest of the log comes to what the whole does.
 pub record Going (m : Model) (l : List ℕ) (w : Walk) (a b : List ℕ) (v : Walk) (c d : List ℕ) (i : ℕ) : Type 0 where

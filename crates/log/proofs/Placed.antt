@@ -12,8 +12,8 @@ use Rattle.model.specs.Walk.{Config, Step, walk}
 use Rattle.model.proofs.Results.{accepted-same, checked, through}
 use Rattle.log.specs.Log.{stepBy, byteFrom, bytesFrom, roundsBy}
 use Rattle.log.specs.Placings.{logOf, inRounds}
-use Rattle.log.proofs.Bytes.{not-before, next-most, made-step, taken, rounds-most}
-use Rattle.log.proofs.Earliest.{recorded-back}
+use Rattle.log.proofs.Bytes.{made-step, taken, rounds-most}
+use Rattle.log.proofs.Earliest.{not-before, next-most, recorded-back}
 
 module _ (m : Model) where
   -- No turn is before the one at which a log begins, and each byte takes at most one turn.
