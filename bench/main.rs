@@ -1,9 +1,11 @@
-// Times the proved library beside an unproved program of the same algorithm, but for merging, on fixed models, and prints three tables.
+// Times the proved library beside an unproved program of the same algorithm, but for merging, on fixed models, and prints three tables; and a
+// fourth, of trays beside their records one by one.
 mod compare;
 mod models;
 mod numbers;
 mod proved;
 mod reference;
+mod trays;
 
 use models::Family;
 use std::hint::black_box;
@@ -76,6 +78,13 @@ fn main() {
         }
     }
 
+    for family in &fixed {
+        if let Err(what) = trays::agree(family) {
+            eprintln!("error: {}, as a tray: {what}", family.name);
+            std::process::exit(1);
+        }
+    }
+
     let mut rows = Vec::new();
     for (name, call, with_tops, with_held) in CALLS {
         let families = fixed.iter().chain(&topped[with_tops]).chain(&held[with_held]);
@@ -100,6 +109,8 @@ fn main() {
     rows[first..second].iter().for_each(Row::print);
     println!("\n| Judgement | Best lines | Steps | Proved | Unproved | Ratio |\n|---|---|---|---|---|---|");
     rows[second..].iter().for_each(Row::print_ties);
+    println!("\n| Tray | Records | Together | One by one | Ratio |\n|---|---|---|---|---|");
+    fixed.iter().for_each(trays::print);
 }
 
 // A line on a terminal that is written over by the next.

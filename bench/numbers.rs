@@ -10,6 +10,7 @@ pub const STOPPED: u64 = 36;
 pub const REACHED: u64 = 37;
 pub const PAGED: u64 = 40;
 pub const FOLLOWED: u64 = 41;
+pub const JUDGED: u64 = 42;
 
 // The bytes of the longest record.
 pub const RECORD: usize = 670;

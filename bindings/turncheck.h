@@ -40,9 +40,12 @@ extern "C" {
 /* Sizes that are enough for every model. */
 #define TURNCHECK_RECORD_BYTES 670    /* the longest record */
 #define TURNCHECK_LINES_BYTES 683     /* the largest line table: 5,460 bits, of a model with G = 4 and K = 3 */
-#define TURNCHECK_SCHEDULE_BYTES 8190 /* the longest schedule: 4,095 steps; what turncheck_judge asks for */
+#define TURNCHECK_SCHEDULE_BYTES 8190 /* the longest schedule: 4,095 steps; what turncheck_judge and turncheck_batch ask for */
 #define TURNCHECK_LOG_BYTES 4095      /* the longest log: 4,095 steps */
 #define TURNCHECK_PAGE_BYTES 299008   /* the longest page, that of 4,095 steps: 73 bytes for each step and 73 for the foot line */
+#define TURNCHECK_TRAY_RECORDS 32     /* the most records of a tray that are judged together */
+#define TURNCHECK_RESULT_BYTES 6      /* the result of one of them, in turncheck_batch's list */
+#define TURNCHECK_LIST_BYTES 192      /* the longest list: the results of 32 records */
 
 /* Why a call refuses. The first fault of a record counts, from left to right. Numbers to 31 are kept for later refusals. */
 enum turncheck_refusal {
@@ -63,22 +66,25 @@ enum turncheck_refusal {
     TURNCHECK_REFUSED_MERGE_HELD = 15,     /* a rule is held in one model and free in the other */
     TURNCHECK_REFUSED_MERGE_COUNT = 16,    /* a thread has more than 64 rules in both models together */
     TURNCHECK_REFUSED_SYMBOL_RANGE = 17,   /* a first symbol, a top or a rule's symbol is not below its thread's symbol count */
-    TURNCHECK_REFUSED_LOG = 18             /* the log has more than 4,095 bytes, or one of its bytes has bit 6 set */
+    TURNCHECK_REFUSED_LOG = 18,            /* the log has more than 4,095 bytes, or one of its bytes has bit 6 set */
+    TURNCHECK_REFUSED_TRAY_COUNT = 19,     /* the tray has more than 32 records */
+    TURNCHECK_REFUSED_LIST_TOO_SMALL = 20  /* the list has fewer places than the tray has records */
 };
 
 /* What a call answers where it does not refuse. */
 enum turncheck_kind {
-    TURNCHECK_DONE = 0,     /* turncheck_read: accepted; turncheck_lines: the table is filled */
-    TURNCHECK_WRITTEN = 32, /* turncheck_write, turncheck_merge: TURNCHECK_LENGTH bytes were written */
-    TURNCHECK_CLEAR = 33,   /* turncheck_judge: no run reaches the target */
-    TURNCHECK_LONG = 34,    /* turncheck_judge: some run does, and each that does has more than 4,095 steps */
-    TURNCHECK_FOUND = 35,   /* turncheck_judge: a shortest run that does has TURNCHECK_STEPS steps; with the depths of the least schedule */
-    TURNCHECK_STOPPED = 36, /* turncheck_replay: the run ends in TURNCHECK_STATE, and not at the target; with its depths */
-    TURNCHECK_REACHED = 37, /* turncheck_replay: the run ends in TURNCHECK_STATE, and at the target; with its depths */
-    TURNCHECK_TAKEN = 38,   /* turncheck_first: the tray's first TURNCHECK_LENGTH bytes are a record */
-    TURNCHECK_NONE = 39,    /* turncheck_first: the tray is empty */
-    TURNCHECK_PAGED = 40,   /* turncheck_page: TURNCHECK_PAGE_LENGTH bytes were written */
-    TURNCHECK_FOLLOWED = 41 /* turncheck_follow: the log ends in TURNCHECK_STATE, and takes TURNCHECK_ROUNDS rounds at the fewest */
+    TURNCHECK_DONE = 0,      /* turncheck_read: accepted; turncheck_lines: the table is filled */
+    TURNCHECK_WRITTEN = 32,  /* turncheck_write, turncheck_merge: TURNCHECK_LENGTH bytes were written */
+    TURNCHECK_CLEAR = 33,    /* turncheck_judge: no run reaches the target */
+    TURNCHECK_LONG = 34,     /* turncheck_judge: some run does, and each that does has more than 4,095 steps */
+    TURNCHECK_FOUND = 35,    /* turncheck_judge: a shortest run that does has TURNCHECK_STEPS steps; with the least schedule's depths */
+    TURNCHECK_STOPPED = 36,  /* turncheck_replay: the run ends in TURNCHECK_STATE, and not at the target; with its depths */
+    TURNCHECK_REACHED = 37,  /* turncheck_replay: the run ends in TURNCHECK_STATE, and at the target; with its depths */
+    TURNCHECK_TAKEN = 38,    /* turncheck_first: the tray's first TURNCHECK_LENGTH bytes are a record */
+    TURNCHECK_NONE = 39,     /* turncheck_first: the tray is empty */
+    TURNCHECK_PAGED = 40,    /* turncheck_page: TURNCHECK_PAGE_LENGTH bytes were written */
+    TURNCHECK_FOLLOWED = 41, /* turncheck_follow: the log ends in TURNCHECK_STATE, and takes TURNCHECK_ROUNDS rounds at the fewest */
+    TURNCHECK_JUDGED = 42    /* turncheck_batch: the list has the results of TURNCHECK_RECORDS records */
 };
 
 /* The parts of a number: its kind in bits 0 to 7, and three fields of 16 bits, in bits 16 to 31, 32 to 47 and 48 to 63. The length of a
@@ -98,7 +104,18 @@ enum turncheck_kind {
 #define TURNCHECK_DEPTH_A(number) TURNCHECK_FIELD2(number) /* TURNCHECK_FOUND, _STOPPED, _REACHED: the depth of A, 1 to 4,096 */
 #define TURNCHECK_DEPTH_B(number) TURNCHECK_FIELD3(number) /* the same kinds: the depth of B, 1 to 4,096 */
 #define TURNCHECK_ROUNDS(number) TURNCHECK_FIELD2(number)  /* TURNCHECK_FOLLOWED: rounds, at most 2,048 */
+#define TURNCHECK_RECORDS(number) TURNCHECK_FIELD1(number) /* TURNCHECK_JUDGED: records, at most 32 */
 #define TURNCHECK_PAGE_LENGTH(number) ((size_t)((number) >> 16 & 0xFFFFFFFF)) /* TURNCHECK_PAGED: at most 299,008 */
+
+/* The verdict on one record of a tray. */
+enum turncheck_verdict { TURNCHECK_VERDICT_CLEAR = 0, TURNCHECK_VERDICT_LONG = 1, TURNCHECK_VERDICT_FOUND = 2 };
+
+/* The result in place i of turncheck_batch's list, from 0, and what its six bytes say. Numbers have their low byte first. */
+#define TURNCHECK_RESULT(list, i) ((list) + TURNCHECK_RESULT_BYTES * (size_t)(i))
+#define TURNCHECK_RESULT_VERDICT(result) ((unsigned)(result)[0])                    /* byte 0: enum turncheck_verdict */
+#define TURNCHECK_RESULT_STEPS(result) ((unsigned)((result)[1] | (result)[2] << 8)) /* bytes 1 and 2: steps, 0 unless Found */
+#define TURNCHECK_RESULT_WRITTEN(result) ((unsigned)(result)[3])                    /* byte 3: 1 if the schedule was written, else 0 */
+#define TURNCHECK_RESULT_PLACE(result) ((unsigned)((result)[4] | (result)[5] << 8)) /* bytes 4 and 5: the place of its first step */
 
 /* Reads a record: TURNCHECK_DONE, or refusal 1 to 6, 11, 13 or 17. */
 uint64_t turncheck_read(const uint8_t *record, size_t record_size);
@@ -152,6 +169,17 @@ uint64_t turncheck_page(const uint8_t *record, size_t record_size, const uint8_t
  * with the same last state. Or a refusal: 1 to 6, 11, 13 or 17 of the record; then 18 for the log's length; then for each byte in turn 18
  * for bit 6, 12 for a change of thread after a held step, and 10; and last 12 for a held step at the log's end. */
 uint64_t turncheck_follow(const uint8_t *record, size_t record_size, const uint8_t *log, size_t log_size);
+
+/* Judges the records of a tray, 32 at most, with one schedule store for all: TURNCHECK_JUDGED with how many they are, 0 for an empty tray.
+ * The list has a place of TURNCHECK_RESULT_BYTES for each, from its front. Verdict and steps are those that turncheck_judge gives for the
+ * record alone, whatever its neighbours are. In the tray's order a Found record's least schedule is written right behind the last one
+ * written, exactly if its steps fit in what is left of 4,095. One that does not fit is passed over, and a later, shorter one may still be
+ * written. The place of a schedule is counted in steps from 0, so its bytes start at 2 * place; it is 0 where nothing was written. A
+ * schedule of 0 steps always counts as written, at place 0. List bytes behind the last result and store bytes behind the last written step
+ * keep their value, and line tables are not given. Or a refusal: the tray is read whole first, and the number of the first record that is
+ * refused comes before all else, 1 to 5, 11, 13 or 17; then 19; then 20 for a list whose places, list_size / 6, are fewer than the records;
+ * and last 7 for a store below TURNCHECK_SCHEDULE_BYTES, whatever the tray. */
+uint64_t turncheck_batch(const uint8_t *tray, size_t tray_size, uint8_t *list, size_t list_size, uint8_t *store, size_t store_size);
 
 #ifdef __cplusplus
 }

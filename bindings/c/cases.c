@@ -42,6 +42,8 @@ static void *call(void *unused) {
         answer = turncheck_page(record.at, record.size, first.at, first.size, second.at, second.size);
     else if (strcmp(name, "follow") == 0)
         answer = turncheck_follow(record.at, record.size, first.at, first.size);
+    else if (strcmp(name, "batch") == 0)
+        answer = turncheck_batch(record.at, record.size, first.at, first.size, second.at, second.size);
     return NULL;
 }
 
@@ -137,6 +139,8 @@ static void tell(uint64_t n, int read, char *words, size_t size) {
         snprintf(words, size, "page:%zu", TURNCHECK_PAGE_LENGTH(n));
     else if (kind == TURNCHECK_FOLLOWED && n == ((uint64_t)TURNCHECK_ROUNDS(n) << 32 | (uint64_t)field << 16 | kind))
         snprintf(words, size, "rounds:%u:%u", field, TURNCHECK_ROUNDS(n));
+    else if (kind == TURNCHECK_JUDGED && n == ((uint64_t)field << 16 | kind))
+        snprintf(words, size, "judged:%u", field);
     else
         snprintf(words, size, "number:%" PRIu64, n);
 }
@@ -156,6 +160,41 @@ static int judged(uint64_t verdict, size_t stack) {
     uint64_t last = on_thread("replay", stack);
     return TURNCHECK_KIND(last) == TURNCHECK_REACHED && TURNCHECK_DEPTH_A(last) == TURNCHECK_DEPTH_A(verdict) &&
            TURNCHECK_DEPTH_B(last) == TURNCHECK_DEPTH_B(verdict);
+}
+
+/* One result of a tray: the verdict and steps of its record alone, and where a schedule was written, the same one, which replay finds to
+ * reach the target. */
+static int is_alone(const uint8_t *result, const struct bytes *store, size_t stack) {
+    lend(TURNCHECK_LINES_BYTES, &first);
+    lend(TURNCHECK_SCHEDULE_BYTES, &second);
+    uint64_t verdict = on_thread("judge", stack);
+    size_t steps = TURNCHECK_RESULT_STEPS(result);
+    if (TURNCHECK_KIND(verdict) != TURNCHECK_CLEAR + TURNCHECK_RESULT_VERDICT(result)) return 0;
+    if (TURNCHECK_STEPS(verdict) != steps) return 0;
+    if (!TURNCHECK_RESULT_WRITTEN(result)) return 1;
+    first.size = 2 * steps;
+    memcpy(first.at, store->at + 2 * TURNCHECK_RESULT_PLACE(result), first.size);
+    if (memcmp(first.at, second.at, first.size) != 0) return 0;
+    return TURNCHECK_KIND(on_thread("replay", stack)) == TURNCHECK_REACHED;
+}
+
+/* All results of a tray, one after another: the records take the whole of it. */
+static int apart(uint64_t number, size_t stack) {
+    static struct bytes tray, list, store;
+    size_t at = 0;
+    tray = record;
+    list = first;
+    store = second;
+    for (unsigned i = 0; i < TURNCHECK_RECORDS(number); i++) {
+        record.size = tray.size - at;
+        memcpy(record.at, tray.at + at, record.size);
+        uint64_t taken = on_thread("first", stack);
+        record.size = TURNCHECK_LENGTH(taken);
+        if (TURNCHECK_KIND(taken) != TURNCHECK_TAKEN || !is_alone(TURNCHECK_RESULT(list.at, i), &store, stack)) break;
+        at += record.size;
+    }
+    record = tray;
+    return at == tray.size;
 }
 
 /* What was taken from a tray is a record by itself. */
@@ -189,10 +228,10 @@ static int placed(uint64_t number, size_t stack) {
 /* One case, by its words: the call, what is lent beside the record, the answer, what the stores then hold. */
 static int agrees(char **word, size_t stack) {
     char words[40];
-    int judge = strcmp(word[0], "judge") == 0;
+    int judge = strcmp(word[0], "judge") == 0, batch = strcmp(word[0], "batch") == 0;
     int pair = strcmp(word[0], "page") == 0 || strcmp(word[0], "merge") == 0; /* bytes that are read, and a store */
     int bytes = pair || strcmp(word[0], "replay") == 0 || strcmp(word[0], "follow") == 0;
-    int stores = judge ? 2 : strcmp(word[0], "write") == 0 || strcmp(word[0], "lines") == 0;
+    int stores = judge || batch ? 2 : strcmp(word[0], "write") == 0 || strcmp(word[0], "lines") == 0;
     char **wanted = word + 1 + stores + bytes + pair;
     if (bytes) parse(word[1], &first);
     if (stores > 0) lend(size_of(word[1]), &first);
@@ -205,7 +244,8 @@ static int agrees(char **word, size_t stack) {
     if (pair) return holds(&second, wanted[1]);
     if (stores > 0 && !holds(&first, wanted[1])) return 0;
     if (stores > 1 && !holds(&second, wanted[2])) return 0;
-    return !judge || TURNCHECK_IS_REFUSED(n) || judged(n, stack);
+    if (TURNCHECK_IS_REFUSED(n)) return 1;
+    return judge ? judged(n, stack) : !batch || apart(n, stack);
 }
 
 int main(int count, char **arguments) {

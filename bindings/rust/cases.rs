@@ -3,9 +3,12 @@
 #[allow(dead_code)]
 mod turncheck;
 
-use turncheck::{Depths, First, Followed, Last, Refusal, Verdict};
+use turncheck::{Depths, First, Followed, Last, Outcome, Refusal, Verdict};
 
 const FILLER: u8 = 0xAA;
+
+/// A place of a list that is lent: no record comes to this.
+const UNFILLED: Outcome = Outcome::Found { steps: usize::MAX, place: None };
 
 /// Makes a call on a thread with a stack of so many bytes.
 fn on_thread<T: Send>(stack: usize, call: impl FnOnce() -> T + Send) -> T {
@@ -106,6 +109,59 @@ fn taken(tray: &[u8], wanted: &str, stack: usize) -> bool {
     told(answer, words) == wanted && stands
 }
 
+/// The bytes of an outcome in a list; the filler where none was filled in.
+fn listed(outcome: &Outcome) -> [u8; 6] {
+    let bytes = |n: usize| u16::to_le_bytes(n.try_into().expect("above 65,535"));
+    match *outcome {
+        UNFILLED => [FILLER; 6],
+        Outcome::Clear => [0; 6],
+        Outcome::Long => [1, 0, 0, 0, 0, 0],
+        Outcome::Found { steps, place } => {
+            let ([a, b], [c, d]) = (bytes(steps), bytes(place.unwrap_or(0)));
+            [2, a, b, place.is_some().into(), c, d]
+        }
+    }
+}
+
+/// One outcome of a tray: the verdict and steps of its record alone, and where a schedule was written, the same one, which replay finds to
+/// reach the target.
+fn is_alone(record: &[u8], outcome: Outcome, store: &[u8], stack: usize) -> bool {
+    let (mut lines, mut schedule) = ([0; turncheck::LINES_BYTES], [0; turncheck::SCHEDULE_BYTES]);
+    let answer = on_thread(stack, || turncheck::judge(record, &mut lines, &mut schedule));
+    let reaches = |written: &[u8]| on_thread(stack, || turncheck::replay(record, written)).is_ok_and(|l| l.target);
+    match (answer, outcome) {
+        (Ok(Verdict::Clear), Outcome::Clear) | (Ok(Verdict::Long), Outcome::Long) => true,
+        (Ok(Verdict::Found(n, _)), Outcome::Found { steps, place }) => {
+            let written = place.map(|p| &store[2 * p..2 * (p + n)]);
+            n == steps && written.is_none_or(|w| *w == schedule[..2 * n] && reaches(w))
+        }
+        _ => false,
+    }
+}
+
+/// All outcomes of a tray, one after another: the records take the whole of it.
+fn apart(mut tray: &[u8], outcomes: &[Outcome], store: &[u8], stack: usize) -> bool {
+    for &outcome in outcomes {
+        match on_thread(stack, || turncheck::first(tray)) {
+            Ok(Some(f)) if is_alone(f.record, outcome, store, stack) => tray = f.rest,
+            _ => return false,
+        }
+    }
+    tray.is_empty()
+}
+
+/// A tray judged together, and each record of it alone. A list of so many bytes has a sixth as many places.
+fn batched(tray: &[u8], word: &[&str], stack: usize) -> bool {
+    let (mut list, mut store) = (vec![UNFILLED; number(word[0]) / 6], lent(word[1]));
+    let answer = on_thread(stack, || turncheck::batch(tray, &mut list, &mut store));
+    let bytes: Vec<u8> = list.iter().flat_map(listed).collect();
+    let stored = expects(word.get(3), tray, &bytes) && expects(word.get(4), tray, &store);
+    if told(answer, |n| format!("judged:{n}")) != word[2] || !stored {
+        return false;
+    }
+    answer.map_or(true, |n| apart(tray, &list[..n], &store, stack))
+}
+
 /// A log with each step in the earliest turn that it can have. Turns above 255 are written as 255: one before them is refused.
 fn placed(log: &[u8]) -> Vec<u8> {
     let mut turn = 0;
@@ -163,6 +219,7 @@ fn agrees(record: &[u8], word: &[&str], stack: usize) -> bool {
         }
         "judge" => judged(record, &word[1..], stack),
         "follow" => followed(record, &word[1..], stack),
+        "batch" => batched(record, &word[1..], stack),
         other => panic!("no such call: {other}"),
     }
 }

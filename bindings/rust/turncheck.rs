@@ -16,12 +16,14 @@
 pub const RECORD_BYTES: usize = 670;
 /// The largest line table: 5,460 bits, of a model with G = 4 and K = 3.
 pub const LINES_BYTES: usize = 683;
-/// The longest schedule, of 4,095 steps: what `judge` asks for, whatever the verdict.
+/// The longest schedule, of 4,095 steps: what `judge` asks for, whatever the verdict, and `batch`, whatever the tray.
 pub const SCHEDULE_BYTES: usize = 8190;
 /// The longest log, of 4,095 steps.
 pub const LOG_BYTES: usize = 4095;
 /// The longest page, that of 4,095 steps: 73 bytes for each step and 73 for the foot line.
 pub const PAGE_BYTES: usize = 299008;
+/// The most records of a tray that are judged together: a list with so many places is enough.
+pub const TRAY_RECORDS: usize = 32;
 
 /// Why a call refuses, with the refusal's number. The first fault of a record counts, from left to right.
 #[derive(Clone, Copy, Debug, PartialEq, Eq)]
@@ -62,6 +64,10 @@ pub enum Refusal {
     SymbolRange = 17,
     /// The log has more than 4,095 bytes, or one of its bytes has bit 6 set.
     Log = 18,
+    /// The tray has more than 32 records.
+    TrayCount = 19,
+    /// The list has fewer places than the tray has records.
+    ListTooSmall = 20,
 }
 
 /// A verdict on a model.
@@ -73,6 +79,18 @@ pub enum Verdict {
     Long,
     /// A shortest run that does has so many steps. The depths are those of the least schedule, which was written.
     Found(usize, Depths),
+}
+
+/// What a record of a tray comes to, judged together with others.
+#[derive(Clone, Copy, Debug, PartialEq, Eq)]
+pub enum Outcome {
+    /// No run reaches the target.
+    Clear,
+    /// Some run does, and each that does has more than 4,095 steps.
+    Long,
+    /// A shortest run that does has so many steps. The place is that of its least schedule's first step in the store, counted in steps from
+    /// 0, so its bytes start at twice the place; `None` where the schedule did not fit and was not written.
+    Found { steps: usize, place: Option<usize> },
 }
 
 /// The greatest numbers of symbols that A's and that B's stack held at any point of a schedule's run, the starting symbol counted: 1 for a
@@ -136,6 +154,14 @@ extern "C" {
         store_size: usize,
     ) -> u64;
     fn turncheck_follow(record: *const u8, record_size: usize, log: *const u8, log_size: usize) -> u64;
+    fn turncheck_batch(
+        tray: *const u8,
+        tray_size: usize,
+        list: *mut u8,
+        list_size: usize,
+        store: *mut u8,
+        store_size: usize,
+    ) -> u64;
 }
 
 /// The kinds of answers that are no refusals: the low byte of a number.
@@ -150,9 +176,13 @@ const TAKEN: u16 = 38;
 const NONE: u16 = 39;
 const PAGED: u16 = 40;
 const FOLLOWED: u16 = 41;
+const JUDGED: u16 = 42;
 
 /// The greatest depth: that of 4,095 pushes upon the starting symbol.
 const DEEPEST: u16 = 4096;
+
+/// The bytes that an outcome has in the library's list.
+const RESULT_BYTES: usize = 6;
 
 /// A number's kind, whose upper byte is 0, and the three fields above it.
 fn parts(number: u64) -> [u16; 4] {
@@ -185,6 +215,8 @@ fn refusal(number: u64) -> Refusal {
         16 => Refusal::MergeCount,
         17 => Refusal::SymbolRange,
         18 => Refusal::Log,
+        19 => Refusal::TrayCount,
+        20 => Refusal::ListTooSmall,
         _ => panic!("turncheck: the library answers {number:#x}, which this wrapper does not know"),
     }
 }
@@ -307,6 +339,42 @@ pub fn follow(record: &[u8], log: &[u8]) -> Result<Followed, Refusal> {
     let number = unsafe { turncheck_follow(record.as_ptr(), record.len(), log.as_ptr(), log.len()) };
     match parts(number) {
         [FOLLOWED, state, rounds, 0] => Ok(Followed { state, rounds: rounds.into() }),
+        _ => Err(refusal(number)),
+    }
+}
+
+/// What the bytes of an outcome say: the verdict, the steps, whether the schedule was written, and its place. Panics on bytes that this
+/// wrapper does not know, as `refusal` does.
+fn outcome(result: &[u8]) -> Outcome {
+    let number = |low, high| usize::from(u16::from_le_bytes([low, high]));
+    match *result {
+        [0, 0, 0, 0, 0, 0] => Outcome::Clear,
+        [1, 0, 0, 0, 0, 0] => Outcome::Long,
+        [2, low, high, 0, 0, 0] => Outcome::Found { steps: number(low, high), place: None },
+        [2, low, high, 1, l, h] => Outcome::Found { steps: number(low, high), place: Some(number(l, h)) },
+        _ => panic!("turncheck: the library lists {result:02x?}, which this wrapper does not know"),
+    }
+}
+
+/// Judges the records of a tray, 32 at most, with one schedule store for all. Answers how many they are, 0 for an empty tray, and fills as
+/// many places at the front of the list; the others keep their value. Verdict and steps are those that `judge` gives for the record alone,
+/// whatever its neighbours are. In the tray's order a Found record's least schedule is written right behind the last one written, exactly
+/// if its steps fit in what is left of 4,095. One that does not fit is passed over, and a later, shorter one may still be written. A
+/// schedule of 0 steps always counts as written, at place 0. Store bytes behind the last written step keep their value. The tray is read
+/// whole first: the first record that is refused counts before all else, then the number of records, the list, and the store.
+pub fn batch(tray: &[u8], list: &mut [Outcome], store: &mut [u8]) -> Result<usize, Refusal> {
+    let mut results = [0; RESULT_BYTES * TRAY_RECORDS];
+    // A tray with more records than these places is refused whatever the list is.
+    let lent = &mut results[..RESULT_BYTES * list.len().min(TRAY_RECORDS)];
+    let number = unsafe {
+        turncheck_batch(tray.as_ptr(), tray.len(), lent.as_mut_ptr(), lent.len(), store.as_mut_ptr(), store.len())
+    };
+    match parts(number) {
+        [JUDGED, count, 0, 0] => {
+            let judged = lent.chunks_exact(RESULT_BYTES).take(count.into());
+            list.iter_mut().zip(judged).for_each(|(place, result)| *place = outcome(result));
+            Ok(count.into())
+        }
         _ => Err(refusal(number)),
     }
 }

@@ -12,13 +12,15 @@ use Rattle.model.specs.Results as result
 use Rattle.merge.specs.declared.Merged.{Merged}
 use Rattle.merge.specs.declared.Merged.the-variants as merged
 use Rattle.merge.specs.Answer.{mergingOf}
+use Rattle.batch.proofs.Determined.{bytes-same}
 use Rattle.judge.specs.Answer.{refusalOf, LeavesLines}
 use Rattle.judge.proofs.Determined.{answers-determined, lines-determined as judge-lines}
 use Rattle.reach.specs.Answer.{outcomeOf}
 use Rattle.reach.proofs.Determined.{leaves-determined}
 use Rattle.record.specs.Reader.{Read, readOf}
-use Rattle.ffi.specs.Replies.{Reply, numberOf, judgeReply, Says}
+use Rattle.ffi.specs.Replies.{Reply, numberOf, judgeReply, batchReply, Says}
 use Rattle.ffi.specs.Calls.{Answered, WrittenBy, SecondCall}
+use Rattle.ffi.proofs.turncheck_batch.Reads as batch
 use Rattle.ffi.proofs.turncheck_first.Reads as first
 use Rattle.ffi.proofs.turncheck_follow.Reads as follow
 use Rattle.ffi.proofs.turncheck_judge.Reads as judge
@@ -146,3 +148,12 @@ pub merge-determined : (κs : Lfts 3) (first second store : RefT (List ℕ)) (r 
 merge-determined κs first second store r s new new′ p q =
     by-reading (now first) (λ n e. both (rw e at p) (rw e at q)) λ m rest e.
     second-determined m (now second) (now store) r s new new′ (rw e at p) (rw e at q)
+
+-- The records of a tray judged: the number, and every byte of the list and of the store.
+pub batch-determined : (κs : Lfts 3) (tray list store : RefT (List ℕ)) (r s : ℕ) (l l′ w w′ : List ℕ)
+    → batch.Post κs (tray, (list, (store, tt))) r (tray, (at-last list l, (at-last store w, tt)))
+    → batch.Post κs (tray, (list, (store, tt))) s (tray, (at-last list l′, (at-last store w′, tt)))
+    → (r ≡ s) × (l ≡ l′) × (w ≡ w′)
+batch-determined κs tray list store r s l l′ w w′ p q =
+    let same = bytes-same (p .listed) (q .listed) in
+    (p .says .number ∙ (ap (λ x. numberOf (batchReply x)) (same .0) ∙ sym (q .says .number)), same .1, same .2)

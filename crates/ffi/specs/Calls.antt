@@ -5,6 +5,8 @@ use Prim.Native.Nat.{ℕ}
 use lib.ListN.{length}
 use Rattle.model.specs.declared.Model.{Model}
 use Rattle.model.specs.Results as result
+use Rattle.batch.specs.declared.Answer.{Answer}
+use Rattle.batch.specs.Bytes.{ListedBytes}
 use Rattle.merge.specs.declared.Merged.{Merged}
 use Rattle.merge.specs.declared.Merged.the-variants.{Done, Refused}
 use Rattle.merge.specs.Answer.{mergingOf, Makes}
@@ -19,6 +21,7 @@ use Rattle.judge.specs.Answer.{refusalOf, Answers, LeavesLines, LeavesSchedule}
 use Rattle.tray.specs.Answer.{firstReadingOf, Stands}
 use Rattle.tray.specs.Tray.{trayOf}
 use Rattle.ffi.specs.Replies.{refused, done, Says, writeReply, linesReply, judgeReply, replayReply, pageReply, followReply, firstReply}
+use Rattle.ffi.specs.Replies.{batchReply}
 
 -- What holds by what reading comes to: one thing of a refusal's number, or another of the model.
 abbrev pub Either : (ℕ → Type 0) → (Model → Type 0) → Read Model → Type 0
@@ -92,3 +95,9 @@ FollowCall bytes log r = Either (λ n. Says r (refused n)) (λ m. Says r (follow
 -- Reading the first record of a tray: what that call answers; a record that is taken stands at the front with as many bytes as are said.
 abbrev pub FirstCall : List ℕ → ℕ → Type 0
 FirstCall tray r = Says r (firstReply (firstReadingOf (trayOf tray) .answer)) × Stands (firstReadingOf (trayOf tray)) tray
+
+-- Judging the records of a tray: what that call answers, with the list and the store as it leaves them.
+pub record BatchCall (tray : List ℕ) (r : ℕ) (list listAfter store storeAfter : List ℕ) : Type 0 where
+  pub answer : Answer
+  pub says : Says r (batchReply answer)
+  pub listed : ListedBytes tray answer list listAfter store storeAfter

@@ -4,6 +4,8 @@ use mathlib.Core.Path.{_≡_}
 use Prim.Native.Nat.{ℕ, _+_, _*_, _/_, _%_, _≤_, _<_}
 use lib.Dec.{eqb}
 use Rattle.model.specs.declared.Depths.{Depths}
+use Rattle.batch.specs.declared.Answer.{Answer}
+use Rattle.batch.specs.declared.Answer.the-variants as batch
 use Rattle.judge.specs.declared.Judgement.{Judgement}
 use Rattle.judge.specs.declared.Judgement.the-variants as judgement
 use Rattle.log.specs.declared.Followed.{Followed}
@@ -21,7 +23,8 @@ use Rattle.tray.specs.declared.FirstRecord.the-variants as firstRecord
 
 -- Everything that a call answers: a refusal's number; done; the length of a record that was written; the three verdicts, Found with
 -- its steps and depths; the last shared state and the depths of a replay that stopped elsewhere, or that reached the target; the length of
--- the record taken from the front of a tray, or that there is none; the length of a page; the last shared state and the rounds of a log.
+-- the record taken from the front of a tray, or that there is none; the length of a page; the last shared state and the rounds of a log; how
+-- many records of a tray were judged.
 pub data Reply : Type 0 where
   refused : ℕ → Reply
   done : Reply
@@ -33,6 +36,7 @@ pub data Reply : Type 0 where
   none : Reply
   paged : ℕ → Reply
   followed : ℕ → ℕ → Reply
+  judged : ℕ → Reply
 
 -- A kind in the low byte, and three fields of 16 bits from bit 16 on.
 abbrev pub packed : ℕ → ℕ → ℕ → ℕ → ℕ
@@ -53,6 +57,7 @@ numberOf (taken n) = packed 38 n 0 0
 numberOf none = packed 39 0 0 0
 numberOf (paged n) = packed 40 n 0 0
 numberOf (followed q n) = packed 41 q n 0
+numberOf (judged n) = packed 42 n 0 0
 
 -- The reply of a kind, a first field, the two others as depths, and the first two as one; a kind that no other reply has is a refusal's
 -- number.
@@ -67,7 +72,8 @@ replyBy kind x d both =
     (cond (eqb kind 37) (reached x d)
     (cond (eqb kind 38) (taken x)
     (cond (eqb kind 39) none
-    (cond (eqb kind 40) (paged both) (cond (eqb kind 41) (followed x (d .a)) (refused kind)))))))))))
+    (cond (eqb kind 40) (paged both)
+    (cond (eqb kind 41) (followed x (d .a)) (cond (eqb kind 42) (judged x) (refused kind))))))))))))
 
 -- The reply that a number tells, by its low byte and its fields.
 abbrev pub replyOf : ℕ → Reply
@@ -95,6 +101,7 @@ ReplyFits (taken n) = n < 65536
 ReplyFits none = Unit {0}
 ReplyFits (paged n) = n < 4294967296
 ReplyFits (followed q n) = (q < 65536) × (n < 65536)
+ReplyFits (judged n) = n < 65536
 
 -- A number says a reply: it is that reply's number, and what it tells is that reply.
 pub record Says (r : ℕ) (a : Reply) : Type 0 where
@@ -144,3 +151,8 @@ firstReply (firstRecord.Refused n) = refused n
 abbrev pub followReply : Followed → Reply
 followReply (following.Accepted shared rounds) = followed (shared .0) rounds
 followReply (following.Refused n) = refused n
+
+-- The reply to a call that judges the records of a tray.
+abbrev pub batchReply : Answer → Reply
+batchReply (batch.Judged n) = judged n
+batchReply (batch.Refused n) = refused n

@@ -2,7 +2,7 @@
 ghost use mathlib.Core.Path.{_≡_};
 ghost use Prim.Native.Nat.{_<_};
 ghost use Rattle.ffi.specs.Calls.{ReadCall, WriteCall, MergeCall, SecondCall, MergedCall, LinesCall};
-ghost use Rattle.ffi.specs.Calls.{JudgeCall, ReplayCall, PageCall, FollowCall, FirstCall};
+ghost use Rattle.ffi.specs.Calls.{JudgeCall, ReplayCall, PageCall, FollowCall, FirstCall, BatchCall};
 ghost use Rattle.ffi.specs.Replies.{packed, FieldsFit, endKind};
 ghost use Rattle.model.specs.Valid.{Valid};
 use judge::Judgement;
@@ -39,6 +39,8 @@ const NONE: u64 = 39;
 const PAGED: u64 = 40;
 
 const FOLLOWED: u64 = 41;
+
+const JUDGED: u64 = 42;
 
 // Reads a record: done where it is accepted.
 #[no_mangle]
@@ -216,6 +218,18 @@ pub extern "C" fn turncheck_first(tray: &[u8]) -> u64
         FirstRecord::None => NONE,
         FirstRecord::Accepted(n) => with_field(TAKEN, n as u64),
         FirstRecord::Refused(n) => n as u64,
+    }
+}
+
+// Judges the records of a tray. Puts the outcomes at the front of the list, six bytes for each, and the schedules that fit at the front of the
+// store: judged, with the number of records.
+#[no_mangle]
+pub extern "C" fn turncheck_batch(tray: &[u8], list: &mut [u8], store: &mut [u8]) -> u64
+    ensures { λ r. ⌜ BatchCall (now (tray .entry)) r (now (list .entry)) (now (list .exit)) (now (store .entry)) (now (store .exit)) ⌝ }
+{
+    match batch::to_bytes(list, tray, store) {
+        batch::Answer::Judged(n) => with_field(JUDGED, n as u64),
+        batch::Answer::Refused(n) => n as u64,
     }
 }
 

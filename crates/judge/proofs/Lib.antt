@@ -5,5 +5,6 @@ pub mod Comparing
 pub mod Determined
 pub mod Lowest
 pub mod Reaching
+pub mod Roomy
 pub mod Schedules
 pub mod Tops

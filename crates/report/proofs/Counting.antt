@@ -13,12 +13,13 @@ use lib.Seq.{length-sets}
 use Rattle.model.specs.Bits.{oneIf, bitAt}
 use Rattle.model.specs.Lines.{powers, position, digits}
 use Rattle.model.proofs.Positions.{digits-position}
+use Rattle.judge.proofs.Roomy.{powers-low}
 use Rattle.writer.specs.Put.{Put}
 use Rattle.writer.proofs.Puts.{nothing, _then_}
 use Rattle.costs.specs.Lanes.{fullLines}
 use Rattle.report.specs.Table.{standing, Fills}
 use Rattle.report.specs.Text.{countOf, pairLine, countLines}
-use Rattle.report.proofs.Sizes.{powers-low, count-short}
+use Rattle.report.proofs.Sizes.{count-short}
 
 -- A byte halved once more loses one bit more.
 pub halved : (byte j : ℕ) {rest : ℕ} → rest ≡ byte / 2 ^ j → rest / 2 ≡ byte / 2 ^ (j + 1)

@@ -1,16 +1,14 @@
 -- How long the text can be: a line of a step that a walk makes has at most seven bytes, since its turn is below 6 and its rule
--- below 64; and a table of 683 bytes has a bit for each line.
+-- below 64.
 use mathlib.Core.List.{List, [], _∷_, _++_}
 use mathlib.Core.Path.{_≡_}
-use Prim.Native.Nat.{ℕ, zero, suc, _+_, _*_, _≤_, _<_}
-use native.Mathlib.Nat.{pow-le-pow-left}
+use Prim.Native.Nat.{ℕ, _+_, _*_, _≤_, _<_}
 use native.Mathlib.Omega.{arith}
 use lib.ListN.{length, length-append}
 use Rattle.model.specs.declared.Depths.{Depths}
 use Rattle.model.specs.declared.Model.{Model}
 use Rattle.model.specs.Depths.{depthsOf}
 use Rattle.model.specs.Fits.{Fits}
-use Rattle.model.specs.Lines.{powers}
 use Rattle.model.specs.Results.{accepted}
 use Rattle.model.specs.Runs.{Leads}
 use Rattle.model.specs.Schedules.{mostSteps}
@@ -72,23 +70,3 @@ found-short {m} {ss} {n} f l e h =
 pub count-short : (n c : ℕ) → n < 10 → c ≤ fullLines → length (pairLine n c) ≤ 7
 unfolding pairLine
 count-short n c h k = simp (length-append, length-line) (omega (arith, digits-1 n h, digits-4 c (omega arith)))
-
--- Up to six states below 4 give 5,460 lines.
-powers-four : (n : ℕ) → n ≤ 6 → powers 4 n ≤ 5460
-unfolding powers
-powers-four zero h = omega arith
-powers-four (suc zero) h = omega arith
-powers-four (suc (suc zero)) h = omega arith
-powers-four (suc (suc (suc zero))) h = omega arith
-powers-four (suc (suc (suc (suc zero)))) h = omega arith
-powers-four (suc (suc (suc (suc (suc zero))))) h = omega arith
-powers-four (suc (suc (suc (suc (suc (suc zero)))))) h = omega arith
-powers-four (suc (suc (suc (suc (suc (suc (suc n))))))) h = absurd (omega arith)
-
-powers-left : (g n : ℕ) → g ≤ 4 → powers g n ≤ powers 4 n
-unfolding powers
-powers-left g zero h = omega arith
-powers-left g (suc n) h = omega (arith, powers-left g n h, pow-le-pow-left h (suc n))
-
-pub powers-low : (g n : ℕ) → g ≤ 4 → n ≤ 6 → powers g n ≤ 5460
-powers-low g n h k = omega (arith, powers-left g n h, powers-four n k)

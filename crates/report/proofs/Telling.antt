@@ -1,48 +1,30 @@
 -- From the answers of the reader and of the judge to what is printed.
-use mathlib.Core.Bool.{_&&_}
 use mathlib.Core.List.{List, _++_}
 use mathlib.Core.Path.{_≡_, refl, subst}
 use Prim.Native.Nat.{ℕ, _*_, _≤_, _<_}
 use native.Mathlib.Omega.{arith}
-use lib.Dec.{leb}
 use lib.ListN.{length, take}
 use Rattle.model.specs.declared.Depths.{Depths}
 use Rattle.model.specs.declared.Model.{Model}
 use Rattle.model.specs.Results.{refused, accepted}
-use Rattle.model.specs.Schedules.{stepsOf, Stored, mostSteps, mostBytes}
-use Rattle.model.specs.Tables.{bytesFor, tableFits, LineTable}
+use Rattle.model.specs.Schedules.{stepsOf, Stored, mostSteps}
+use Rattle.model.specs.Tables.{LineTable}
 use Rattle.model.specs.Valid.{Valid}
 use Rattle.model.specs.Verdict.{clear, long, found, Judged}
 use Rattle.model.specs.Walk.{Step}
-use Rattle.model.proofs.Granted.{granted}
 use Rattle.model.proofs.Ranges.{valid-fits}
 use Rattle.model.proofs.Stores.{stored-steps}
-use Rattle.model.proofs.Tests.{both, order}
 use Rattle.record.specs.declared.Answer.the-variants.{Accepted, Refused}
 use Rattle.record.specs.declared.Reading.{Reading}
 use Rattle.record.specs.Held.{readingOf}
 use Rattle.record.specs.Reader.{Read}
-use Rattle.judge.specs.Answer.{refusalOf, Witness}
+use Rattle.judge.specs.Answer.{Witness}
 use Rattle.report.specs.Prints.{Told, TextFor, textRoom}
 use Rattle.report.specs.Table.{standing, Fills}
 use Rattle.text.specs.Text.{line}
 use Rattle.text.proofs.Numbers.{digits-4, length-line}
 use Rattle.report.specs.Text.{refusedWord, foundLine, clearLine, longLine, stepLines, countLines}
-use Rattle.report.proofs.Sizes.{powers-low, found-short}
-
--- A valid model is not refused by the judge where the stores have 683 and 8,190 bytes.
-unrefused : (m : Model) → Valid m → refusalOf m 683 mostBytes ≡ 0
-unfolding refusalOf
-unrefused m v =
-    let f = valid-fits m .0 v in
-    let low : bytesFor (m .g) (m .k) ≤ 683 =
-    let b = powers-low (m .g) (2 * m .k) (f .g .1) (omega (arith, f .k)) in omega arith in
-    granted m (tableFits m 683 && leb mostBytes mostBytes) .1
-    (v, both (tableFits m 683) (leb mostBytes mostBytes) .1 (order (bytesFor (m .g) (m .k)) 683 .1 low, tt))
-
--- So it gives no refusal.
-pub not-refused : (m : Model) {a b : ℕ} {P : Type 0} → Valid m → a ≡ 683 → b ≡ mostBytes → 0 < refusalOf m a b → P
-not-refused m v e f h = absurd (omega (arith, unrefused m v, rw (e, f) at h))
+use Rattle.report.proofs.Sizes.{found-short}
 
 -- A store of 683 bytes has a bit for each line of a valid model.
 pub fills : (m : Model) {table : List ℕ} → Valid m → length table ≡ 683 → Fills (m .g) (2 * m .k) table

@@ -1,4 +1,5 @@
 pub mod Determined
 pub mod Fronts
 pub mod Laws
+pub mod Once
 pub mod Parts

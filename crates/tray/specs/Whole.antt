@@ -5,7 +5,7 @@ use Prim.Native.Nat.{ℕ}
 use Rattle.model.specs.declared.Model.{Model}
 use Rattle.model.specs.Valid.{Valid, Same, Places}
 use Rattle.writer.specs.Writer.{recordOf}
-use Rattle.tray.specs.Tray.{none, first, trayOf}
+use Rattle.tray.specs.Tray.{none, refused, first, trayOf}
 
 -- The records of some models, one after another.
 abbrev pub recordsOf : List Model → List ℕ
@@ -18,6 +18,13 @@ pub data ReadAs : List ℕ → List Model → Type 0 where
   end : {bytes : List ℕ} → trayOf bytes ≡ none → ReadAs bytes []
   -- the first model, and the others from the rest
   next : {bytes rest : List ℕ} {m : Model} {ms : List Model} → trayOf bytes ≡ first m rest → ReadAs rest ms → ReadAs bytes (m ∷ ms)
+
+-- The first record of a tray that is refused, behind any number that are accepted, is refused by n.
+pub data RefusedBy : List ℕ → ℕ → Type 0 where
+  -- it stands at the front
+  here : {bytes : List ℕ} {n : ℕ} → trayOf bytes ≡ refused n → RefusedBy bytes n
+  -- it stands in the rest
+  behind : {bytes rest : List ℕ} {m : Model} {n : ℕ} → trayOf bytes ≡ first m rest → RefusedBy rest n → RefusedBy bytes n
 
 -- Models that can be written: each is valid, and has its 64 rule places and eight bytes of marks a thread.
 abbrev pub Writable : List Model → Type 0

@@ -5,8 +5,9 @@ use native.Mathlib.Omega.{arith}
 use lib.Seq.{length-take-le}
 use borrow.Author.Needs.{needs}
 use Rattle.model.proofs.Stores.{stored-steps}
+use Rattle.judge.proofs.Roomy.{not-refused}
 use Rattle.report.proofs.Putting.{held, held-within}
-use Rattle.report.proofs.Telling.{not-refused, fills, found-room, tells-clear, tells-long, tells-found}
+use Rattle.report.proofs.Telling.{fills, found-room, tells-clear, tells-long, tells-found}
 use Rattle.report.proofs.judged.Statement.{statement}
 use Rattle.report.proofs.judged.Tie as tie
 

@@ -1,0 +1,10 @@
+pub mod Alone
+pub mod Answering
+pub mod Counting
+pub mod Determined
+pub mod Judging
+pub mod Listing
+pub mod Places
+pub mod Placing
+pub mod Ranges
+pub mod Walk
