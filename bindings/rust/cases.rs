@@ -3,12 +3,12 @@
 #[allow(dead_code)]
 mod turncheck;
 
-use turncheck::{Depths, First, Followed, Last, Outcome, Refusal, Verdict};
+use turncheck::{Depths, First, Followed, Last, Outcome, Refusal, Verdict, VerdictKind};
 
 const FILLER: u8 = 0xAA;
 
 /// A place of a list that is lent: no record comes to this.
-const UNFILLED: Outcome = Outcome::Found { steps: usize::MAX, place: None };
+const UNFILLED: Outcome = Outcome { verdict: VerdictKind::Found, steps: usize::MAX, written: false, place: usize::MAX };
 
 /// Makes a call on a thread with a stack of so many bytes.
 fn on_thread<T: Send>(stack: usize, call: impl FnOnce() -> T + Send) -> T {
@@ -112,15 +112,11 @@ fn taken(tray: &[u8], wanted: &str, stack: usize) -> bool {
 /// The bytes of an outcome in a list; the filler where none was filled in.
 fn listed(outcome: &Outcome) -> [u8; 6] {
     let bytes = |n: usize| u16::to_le_bytes(n.try_into().expect("above 65,535"));
-    match *outcome {
-        UNFILLED => [FILLER; 6],
-        Outcome::Clear => [0; 6],
-        Outcome::Long => [1, 0, 0, 0, 0, 0],
-        Outcome::Found { steps, place } => {
-            let ([a, b], [c, d]) = (bytes(steps), bytes(place.unwrap_or(0)));
-            [2, a, b, place.is_some().into(), c, d]
-        }
+    if *outcome == UNFILLED {
+        return [FILLER; 6];
     }
+    let ([a, b], [c, d]) = (bytes(outcome.steps), bytes(outcome.place));
+    [outcome.verdict as u8, a, b, outcome.written.into(), c, d]
 }
 
 /// One outcome of a tray: the verdict and steps of its record alone, and where a schedule was written, the same one, which replay finds to
@@ -129,12 +125,15 @@ fn is_alone(record: &[u8], outcome: Outcome, store: &[u8], stack: usize) -> bool
     let (mut lines, mut schedule) = ([0; turncheck::LINES_BYTES], [0; turncheck::SCHEDULE_BYTES]);
     let answer = on_thread(stack, || turncheck::judge(record, &mut lines, &mut schedule));
     let reaches = |written: &[u8]| on_thread(stack, || turncheck::replay(record, written)).is_ok_and(|l| l.target);
-    match (answer, outcome) {
-        (Ok(Verdict::Clear), Outcome::Clear) | (Ok(Verdict::Long), Outcome::Long) => true,
-        (Ok(Verdict::Found(n, _)), Outcome::Found { steps, place }) => {
-            let written = place.map(|p| &store[2 * p..2 * (p + n)]);
-            n == steps && written.is_none_or(|w| *w == schedule[..2 * n] && reaches(w))
+    match (answer, outcome.verdict) {
+        (Ok(Verdict::Clear), VerdictKind::Clear) | (Ok(Verdict::Long), VerdictKind::Long) => {
+            outcome.steps == 0 && !outcome.written
         }
+        (Ok(Verdict::Found(n, _)), VerdictKind::Found) if outcome.written => {
+            let written = &store[2 * outcome.place..2 * (outcome.place + n)];
+            n == outcome.steps && *written == schedule[..2 * n] && reaches(written)
+        }
+        (Ok(Verdict::Found(n, _)), VerdictKind::Found) => n == outcome.steps,
         _ => false,
     }
 }

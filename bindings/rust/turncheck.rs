@@ -81,16 +81,29 @@ pub enum Verdict {
     Found(usize, Depths),
 }
 
-/// What a record of a tray comes to, judged together with others.
-#[derive(Clone, Copy, Debug, PartialEq, Eq)]
-pub enum Outcome {
+/// The verdict on a record of a tray.
+#[derive(Clone, Copy, Debug, Default, PartialEq, Eq)]
+pub enum VerdictKind {
     /// No run reaches the target.
+    #[default]
     Clear,
     /// Some run does, and each that does has more than 4,095 steps.
     Long,
-    /// A shortest run that does has so many steps. The place is that of its least schedule's first step in the store, counted in steps from
-    /// 0, so its bytes start at twice the place; `None` where the schedule did not fit and was not written.
-    Found { steps: usize, place: Option<usize> },
+    /// A shortest run that does has at most 4,095 steps.
+    Found,
+}
+
+/// What a record of a tray comes to, judged together with others.
+#[derive(Clone, Copy, Debug, Default, PartialEq, Eq)]
+pub struct Outcome {
+    pub verdict: VerdictKind,
+    /// The steps of a shortest run to the target; 0 unless Found.
+    pub steps: usize,
+    /// Whether its least schedule was written.
+    pub written: bool,
+    /// The place of that schedule's first step in the store, counted in steps from 0, so its bytes start at twice the place; 0 where nothing
+    /// was written.
+    pub place: usize,
 }
 
 /// The greatest numbers of symbols that A's and that B's stack held at any point of a schedule's run, the starting symbol counted: 1 for a
@@ -348,10 +361,11 @@ pub fn follow(record: &[u8], log: &[u8]) -> Result<Followed, Refusal> {
 fn outcome(result: &[u8]) -> Outcome {
     let number = |low, high| usize::from(u16::from_le_bytes([low, high]));
     match *result {
-        [0, 0, 0, 0, 0, 0] => Outcome::Clear,
-        [1, 0, 0, 0, 0, 0] => Outcome::Long,
-        [2, low, high, 0, 0, 0] => Outcome::Found { steps: number(low, high), place: None },
-        [2, low, high, 1, l, h] => Outcome::Found { steps: number(low, high), place: Some(number(l, h)) },
+        [0, 0, 0, 0, 0, 0] => Outcome::default(),
+        [1, 0, 0, 0, 0, 0] => Outcome { verdict: VerdictKind::Long, ..Outcome::default() },
+        [2, a, b, written @ 0..=1, c, d] => {
+            Outcome { verdict: VerdictKind::Found, steps: number(a, b), written: written == 1, place: number(c, d) }
+        }
         _ => panic!("turncheck: the library lists {result:02x?}, which this wrapper does not know"),
     }
 }

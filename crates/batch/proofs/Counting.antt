@@ -63,6 +63,10 @@ taken s r {n} e stands a =
       some = omega (arith, filled (r .model), t .1);
     }
 
+-- What the reader is given of a tray from a place on.
+abbrev pub partFrom : List ℕ → ℕ → List ℕ
+partFrom tray at = take (length tray - at) (drop at tray)
+
 -- So many records are read, up to a place.
 pub record Passed (tray : List ℕ) (at n : ℕ) : Type 0 where
   pub within : at ≤ length tray
@@ -95,24 +99,21 @@ module _ {tray : List ℕ} {at n : ℕ} (p : Passed tray at n) where
         refuses = λ j r. p .refuses j (behind e r);
       }
 
-  -- What the reader is given there ..
-  abbrev part : List ℕ
-  part = take (length tray - at) (drop at tray)
-
-  -- .. is the rest of the tray; so what it says of a record that is accepted, ..
-  pub accepts : (r : FirstReading) {k : ℕ} → r ≡ firstReadingOf (trayOf part) → Stands r part → r .answer ≡ front.Accepted k
-      → Taken (drop at tray) (r .model) k
+  -- What the reader is given there is the rest of the tray; so what it says of a record that is accepted, ..
+  pub accepts : (r : FirstReading) {k : ℕ} → r ≡ firstReadingOf (trayOf (partFrom tray at)) → Stands r (partFrom tray at)
+      → r .answer ≡ front.Accepted k → Taken (drop at tray) (r .model) k
   accepts r e stands a = let same = to-end tray at (p .within) in taken _ r (rw same at e) (rw same at stands) a
 
   -- .. of one that is refused, ..
-  pub refuses-here : (r : FirstReading) {k : ℕ} → r ≡ firstReadingOf (trayOf part) → r .answer ≡ front.Refused k → RefusedBy tray k
+  pub refuses-here : (r : FirstReading) {k : ℕ} → r ≡ firstReadingOf (trayOf (partFrom tray at)) → r .answer ≡ front.Refused k
+      → RefusedBy tray k
   refuses-here r e a = p .refuses _ (here (says _ r (rw (to-end tray at (p .within)) at e) a))
 
   -- .. and of none is said of the tray.
   ended : trayOf (drop at tray) ≡ none → Holds tray n
   ended e = let h = p .reads [] (end e) in record { models = h .models; read = h .read; many = omega (arith, h .many) }
 
-  pub ends-here : (r : FirstReading) → r ≡ firstReadingOf (trayOf part) → r .answer ≡ front.None → Holds tray n
+  pub ends-here : (r : FirstReading) → r ≡ firstReadingOf (trayOf (partFrom tray at)) → r .answer ≡ front.None → Holds tray n
   ends-here r e a = ended (says _ r (rw (to-end tray at (p .within)) at e) a)
 
   -- The tray is read to its end.

@@ -30,7 +30,7 @@ use Rattle.batch.specs.Batch.{mostRecords, Schedules, end, skipped, writ
 use Rattle.batch.specs.Counts.{Holds}
 use Rattle.batch.specs.Each.{JudgedAlone, lengthOf, EachJudged}
 use Rattle.batch.specs.Outcomes.{without, outcomeOf, usedBy, outcomesFrom}
-use Rattle.batch.proofs.Counting.{Taken, taken}
+use Rattle.batch.proofs.Counting.{Taken, taken, partFrom}
 use Rattle.batch.proofs.Placing.{fits, fits-not, added, added-none, stays-low}
 
 -- No model, no outcome, and the store as it was.
@@ -156,10 +156,7 @@ upto-none store h few full =
 
 module _ {tray : List ℕ} {count at used i : ℕ} {list : List Outcome} {old new : List ℕ} (u : Upto tray count at used i list old new) where
   -- .. then the record at the place is read ..
-  abbrev part : List ℕ
-  part = take (length tray - at) (drop at tray)
-
-  pub next-front : i < count → (r : FirstReading) → r ≡ firstReadingOf (trayOf part) → Stands r part
+  pub next-front : i < count → (r : FirstReading) → r ≡ firstReadingOf (trayOf (partFrom tray at)) → Stands r (partFrom tray at)
       → Front (drop at tray) (getD (u .models) i zeroModel) (drop (i + 1) (u .models)) r
   next-front h r e stands =
       let more = drop-cons (u .models) i zeroModel (omega (arith, u .many)) in
@@ -167,8 +164,9 @@ module _ {tray : List ℕ} {count at used i : ℕ} {list : List Outcome} {old ne
       front-read (drop at tray) r (rw (more, ← add-one i) at (u .left)) (rw same at e) (rw same at stands)
 
   -- .. and judged ..
-  pub upto-next : i < count → (r : FirstReading) → r ≡ firstReadingOf (trayOf part) → Stands r part → {o : Outcome} {store : List ℕ}
-      → JudgedAlone used (r .model) o new store → Upto tray count (at + lengthOf (r .answer)) (usedBy used o) (i + 1) (set list i o) old store
+  pub upto-next : i < count → (r : FirstReading) → r ≡ firstReadingOf (trayOf (partFrom tray at)) → Stands r (partFrom tray at)
+      → {o : Outcome} {store : List ℕ} → JudgedAlone used (r .model) o new store
+      → Upto tray count (at + lengthOf (r .answer)) (usedBy used o) (i + 1) (set list i o) old store
   upto-next h r e stands {o} {store} j =
       let f = next-front h r e stands in
       let more = drop-cons (u .models) i zeroModel (omega (arith, u .many)) in

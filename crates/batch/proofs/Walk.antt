@@ -23,12 +23,12 @@ use denote.Triple.Bound.{Bound}
 use denote.Triple.Spec.{tripleOf}
 use denote.Triple.Clauses.{Clauses, Ended, Lasts, atExit, lasts, closing}
 
--- the locals' types, local i at the address `l i`
+-- The locals' types, local i at the address `l i`.
 abbrev pub placed : List Local → (ℕ → ℕ) → List (Ty × ℕ)
 placed [] l = []
 placed (local τ h ∷ ls) l = (τ, l zero) ∷ placed ls (λ i. l (suc i))
 
--- what each local holds: none holds anything, and local j holds v where the others hold what f says
+-- What each local holds: none holds anything, and local j holds v where the others hold what f says.
 abbrev pub empty : ℕ → Option Val
 empty i = none
 
@@ -39,7 +39,7 @@ either false u v = v
 abbrev pub holding : ℕ → Val → (ℕ → Option Val) → ℕ → Option Val
 holding j v f i = either (eqb i j) (just v) (f i)
 
--- the locals in the context: local i at 2 · i, and that it dies after it
+-- The locals in the context: local i at 2 · i, and that it dies after it.
 abbrev cell : {M : Type 1} (𝓤 : URA M) → Ty → ℕ → Option Val → Item 𝓤
 cell 𝓤 τ b none = ‵ (froom τ b 0)
 cell 𝓤 τ b (just v) = ‵ (fat fullShare τ b 0 v)
@@ -48,12 +48,12 @@ abbrev pub locals : {M : Type 1} (𝓤 : URA M) → List (Ty × ℕ) → (ℕ �
 locals 𝓤 [] f = []
 locals 𝓤 (e ∷ E) f = cell 𝓤 (e .0) (e .1) (f zero) ∷ ‵ (fdies (e .0) (e .1)) ∷ locals 𝓤 E (λ i. f (suc i))
 
--- n positions from k on
+-- The n positions from k on.
 abbrev pub range : ℕ → ℕ → List ℕ
 range k zero = []
 range k (suc n) = k ∷ range (suc k) n
 
--- the address b before the addresses l
+-- The address b before the addresses l.
 abbrev before : ℕ → (ℕ → ℕ) → ℕ → ℕ
 before b l zero = b
 before b l (suc i) = l i
@@ -77,19 +77,19 @@ module _ {M : Type 1} {𝓤 : URA M} {H : Heap 𝓤} {A : Atoms 𝓤} {K : Type 
   frees-all t [] = free0 t
   frees-all t (e ∷ E) = step (λ s. free1 t $ frees-all t E $ s)
 
-  -- the copy of a local, which is entry n
+  -- The copy of a local, which is entry n.
   pub var : K → {Γ : List (Item 𝓤)} {E : List (Ty × ℕ)} (n : ℕ) {i : ℕ} {q : Share} {v : Val}
       → nth 𝓤 H A n Γ ≡ ‵ (fat q (spotOf 𝓤 H E i .0) (spotOf 𝓤 H E i .1) zero v) → Opd K W Γ E (copy (place i [])) v
   var t n e = load t (from t (stop t)) (look t n e)
 
-  -- the test of a `while`: the turn goes on, or the loop is left
+  -- The test of a `while`: the turn goes on, or the loop is left.
   pub tests : K → {Γ : List (Item 𝓤)} {E : List (Ty × ℕ)} {C : Calls 𝓤 H} {Λ : Loops 𝓤 H} {q : Post 𝓤 H} {c : Operand} {n : ℕ} {b : Body}
       {y : Bool} → Opd K W Γ E c (vbool y) → (T y → Seq K W Γ (runs C Λ E b q)) → (T (not y) → Seq K W Γ (prop (post 𝓤 H q (exits n))))
       → Seq K W Γ (runs C Λ E (seq (cond c skip (exit n)) b) q)
   tests t o held failed =
       first t $ branches t o (λ h. skips t $ record { prf = held h .prf }) (λ h. jumps t $ record { prf = failed h .prf })
 
-  -- what a call has left: what the callee ensures, what says the last values, what the result owns, and the tokens
+  -- What a call has left: what the callee ensures, what says the last values, what the result owns, and the tokens.
   pub returned : K → {Γ : List (Item 𝓤)} {G : Goal 𝓤 H} → Soaks G → (D : Ended) (c : Clauses 𝓤 D)
       (y : (x : Bound 𝓤 H A (D .signature)) × c (x .0) (x .3) .ghost) (w : Val)
       → ((r : Res (D .signature) (y .0 .0)) (ws : Lasts D (y .0 .0) (y .0 .3))

@@ -70,7 +70,7 @@ use Rattle.batch.proofs.to_list.Code.Mir as mir′
 use Rattle.batch.proofs.to_list.Proof.Loop as L
 mod Loop
 
--- at exit nothing is owned of a parameter: of `list` and `store` there is what says the last list
+-- At exit nothing is owned of a parameter: of `list` and `store` there is what says the last list.
 abbrev stayed : Stays (this.ended .signature .params) (this.ended .kept)
 stayed = (
   gave-slice (0 ∷ []) tt (plain (λ _. O.the-row)),
@@ -80,27 +80,27 @@ stayed = (
   ),
 )
 
--- the contract of `judge_all`
+-- The contract of `judge_all`.
 abbrev JudgeAll : {M : Type 1} (𝓤 : URA M) (H : Heap 𝓤) (A : Atoms 𝓤) (mem : Memory → SProp 𝓤) (run : Routine → Fun 𝓤) → Contract 𝓤
 JudgeAll 𝓤 H A mem run = tripleOf 𝓤 H A judge-all.signature (judge-all.spec 𝓤 H A mem run)
 
 module _ {M : Type 1} (𝓤 : URA M) (H : Heap 𝓤) (A : Atoms 𝓤) (W : Given 𝓤 H A) (mem : Memory → SProp 𝓤) (run : Routine → Fun 𝓤)
     (κs : Lfts 3) (qs : Shares 3) (x : RefT (List Outcome)) (t s : RefT (List ℕ)) where
-  -- the machine value of a slice reference
+  -- The machine value of a slice reference.
   abbrev slice : {X : Type 0} → RefT (List X) → Val
   slice z = sliceVal (z .ptr) (length (z .now))
 
   abbrev n : ℕ
   n = length (x .now)
 
-  -- what the triple binds outside
+  -- What the triple binds outside.
   abbrev bound : walkOf 𝓤 H A this.ended stayed (this.clauses 𝓤 H A mem run) .Ghost
   bound = ((κs, qs, tt, (x, (t, (s, tt))), (slice-vals x, (slice-vals t, (slice-vals s, tt)))), tt)
 
   abbrev Post : Val → SProp 𝓤
   Post = walkOf 𝓤 H A this.ended stayed (this.clauses 𝓤 H A mem run) .post bound
 
-  -- the token of `list`, and those of `tray` and `store`; and what each parameter owns
+  -- The token of `list`, and those of `tray` and `store`; and what each parameter owns.
   abbrev token : Item 𝓤
   token = ‵ (flft (κs .0) (qs .0))
 
@@ -116,14 +116,14 @@ module _ {M : Type 1} (𝓤 : URA M) (H : Heap 𝓤) (A : Atoms 𝓤) (W : Given
   abbrev store : Item 𝓤
   store = ‵ (MutSlice (named 2) (κs .1 .1 .0) u8 .own s (slice-vals s))
 
-  -- what says that the list are zs, and that the last store is ys
+  -- What says that the list holds zs, and that the last store is ys.
   abbrev seen : List Outcome → Gv
   seen zs = codedHoleys O.the-row .code (heres O.the-row zs)
 
   abbrev last : List ℕ → Item 𝓤
   last ys = ‵ (finally u8 (s .name) ys)
 
-  -- what `judge_all`'s triple binds outside, and that `to_list` has what it asks
+  -- What `judge_all`'s triple binds outside, and that `to_list` has what it asks.
   abbrev to-judge-all : JudgeAll 𝓤 H A mem run .Ghost
   to-judge-all = ((κs .1, qs .1, tt, (n, (t, (s, tt))), (vint w64 n ∷ [], (slice-vals t, (slice-vals s, tt)))), tt)
 
@@ -132,7 +132,7 @@ module _ {M : Type 1} (𝓤 : URA M) (H : Heap 𝓤) (A : Atoms 𝓤) (W : Given
       qed W (tokens ∷ tray ∷ store ∷ []) ∵ nothing ! $ move ! (3 ∷ 0 ∷ []) $ fjoin ! $ move ! (2 ∷ 0 ∷ []) $ fjoin ! $
       owned ! usize (Is usize) (uint-makes 𝓤 H A W w64) n _ (refl, room .0) $ fjoin ! $ move ! (1 ∷ 0 ∷ []) $ join ! $ frame ! $ done !
 
-  -- what `judge_all` returned, at the machine value w, and what it ensures
+  -- What `judge_all` returned, at the machine value w, and what it ensures.
   module _ (w : Val) (all : Batch) (is : Is B.the-row all (w ∷ [])) (few : Few n all) (ys : List ℕ) (same : length ys ≡ length (s .now))
       (judged : All n (t .now) all (s .now) ys) where
     abbrev answer : Val
@@ -144,7 +144,7 @@ module _ {M : Type 1} (𝓤 : URA M) (H : Heap 𝓤) (A : Atoms 𝓤) (W : Given
     spelled : w ≡ L.mach all
     spelled = ap only (LL.tells B.the-type B′.the-laws all _ is)
 
-    -- from what is had at the end to the `post`
+    -- From what is had at the end to the `post`.
     exits : (zs : List Outcome) → zs ≡ sets (x .now) 0 (take (all .count) (all .outcomes))
         → ent 𝓤 (⋆ 𝓤 H A (‵ (fobs (x .name) (seen zs)) ∷ token ∷ tokens ∷ last ys ∷ [])) (Post answer)
     exits zs e =
@@ -161,12 +161,12 @@ module _ {M : Type 1} (𝓤 : URA M) (H : Heap 𝓤) (A : Atoms 𝓤) (W : Given
       abbrev E : List (Ty × ℕ)
       E = placed mir′.locals l
 
-      -- the loop's invariant, with what no turn touches: the open borrow of `list`, and what `judge_all` left
+      -- The loop's invariant, with what no turn touches: the open borrow of `list`, and what `judge_all` left.
       abbrev At : L.Upto all → List (Item 𝓤)
       At = L.At 𝓤 l x all (‵ (fobor (κs .0) (qs .0) (Held O.the-row n (x .ptr .0) (x .ptr .1) (x .name)))
           ∷ ‵ (fobs (x .name) (seen (x .now))) ∷ ‵ (fauth (x .name) (seen (x .now))) ∷ tokens ∷ last ys ∷ [])
 
-      -- after the loop: the borrow is closed, and the answer is returned
+      -- After the loop: the borrow is closed, and the answer is returned.
       ends : (i : L.Upto all) → i .0 ≡ all .count → ent 𝓤 (⋆ 𝓤 H A (At i)) (Wp 𝓤 H (𝓣 .C) (𝓣 .Λ) E mir′.t-7 (atReturn 𝓤 H E Post))
       ends (i, upto) e =
           qed W (At (i, upto)) ∵ exec ! (𝓣 .C) (𝓣 .Λ) E mir′.t-7 (atRet E Post) $
@@ -179,7 +179,7 @@ module _ {M : Type 1} (𝓤 : URA M) (H : Heap 𝓤) (A : Atoms 𝓤) (W : Given
           keep ! (range 3 26 ++ (0 ∷ 2 ∷ 29 ∷ 30 ∷ [])) $ frees-all ! E $
           by ! (exits (L.stored all (x .now) i) (ap (L.stored all (x .now)) e))
 
-      -- what `judge_all` returned is stored, the borrow of `list` is opened, and the loop runs
+      -- What `judge_all` returned is stored, the borrow of `list` is opened, and the loop runs.
       lands-on : Sq W (‵ (B.the-row .own all (w ∷ [])) ∷ tokens ∷ last ys ∷ ‵ ftrue
           ∷ locals 𝓤 E (holding 1 (slice x) empty) ++ token ∷ list ∷ ‵ ftrue ∷ [])
           (lands (𝓣 .C) (𝓣 .Λ) E (place 4 []) w mir′.t-5 (atRet E Post))
@@ -196,7 +196,7 @@ module _ {M : Type 1} (𝓤 : URA M) (H : Heap 𝓤) (A : Atoms 𝓤) (W : Given
   module _ (𝓣 : Tables 𝓤 H) (known : Triple 𝓤 (𝓣 .C #batch·together·judge-all) (JudgeAll 𝓤 H A mem run))
       (known′ : Triple 𝓤 (𝓣 .C #batch·together·outcome-at) (L.OutcomeAt 𝓤 H A mem run))
       (room : Room O.the-row n) (room-t : Room u8 (length (t .now))) (room-s : Room u8 (length (s .now))) where
-    -- the arguments are stored, and `judge_all` is called: `tray` and `store` are given up for good
+    -- The arguments are stored, and `judge_all` is called: `tray` and `store` are given up for good.
     starts : (l : ℕ → ℕ) → Sq W (locals 𝓤 (placed mir′.locals l) empty ++ token ∷ tokens ∷ list ∷ tray ∷ store ∷ ‵ ftrue ∷ [])
         (params′ (placed mir′.locals l) (slice x ∷ slice t ∷ slice s ∷ [])
         (runs (𝓣 .C) (𝓣 .Λ) (placed mir′.locals l) mir′.t-1 (atRet (placed mir′.locals l) Post)))

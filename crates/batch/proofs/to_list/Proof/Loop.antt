@@ -53,16 +53,16 @@ use Rattle.batch.proofs.together.outcome_at as outcome-at
 use Rattle.batch.proofs.together.outcome_at.Symbol.{name as #batch·together·outcome-at}
 use Rattle.batch.proofs.to_list.Code.Mir as code
 
--- the contract of `outcome_at`
+-- The contract of `outcome_at`.
 abbrev pub OutcomeAt : {M : Type 1} (𝓤 : URA M) (H : Heap 𝓤) (A : Atoms 𝓤) (mem : Memory → SProp 𝓤) (run : Routine → Fun 𝓤) → Contract 𝓤
 OutcomeAt 𝓤 H A mem run = tripleOf 𝓤 H A outcome-at.signature (outcome-at.spec 𝓤 H A mem run)
 
--- the machine value of what `judge_all` returns
+-- The machine value of what `judge_all` returns.
 abbrev pub mach : Batch → Val
 mach all = LL.val B.the-type B′.the-laws all
 
 module _ (all : Batch) where
-  -- how many places are stored, and the order in which fewer are left
+  -- How many places are stored, and the order in which fewer are left.
   abbrev pub Upto : Type 0
   Upto = (i : ℕ) × (i ≤ all .count)
 
@@ -75,7 +75,7 @@ module _ (all : Batch) where
   abbrev pub stored : List Outcome → ℕ → List Outcome
   stored xs i = sets xs 0 (take i (all .outcomes))
 
--- the invariant: the list, then the locals, of which `list`, `all` and i hold something, then Γ
+-- The invariant: the list, then the locals, of which `list`, `all` and i hold something, then Γ.
 abbrev pub At : {M : Type 1} (𝓤 : URA M) (l : ℕ → ℕ) (x : RefT (List Outcome)) (all : Batch) → List (Item 𝓤) → Upto all → List (Item 𝓤)
 At 𝓤 l x all Γ i = ‵ (row O.the-row fullShare (stored all (x .now) (i .0)) (x .ptr .0) (x .ptr .1))
     ∷ locals 𝓤 (placed code.locals l)
@@ -84,7 +84,7 @@ At 𝓤 l x all Γ i = ‵ (row O.the-row fullShare (stored all (x .now) (i .0))
 module _ {M : Type 1} (𝓤 : URA M) (H : Heap 𝓤) (A : Atoms 𝓤) (W : Given 𝓤 H A) (mem : Memory → SProp 𝓤) (run : Routine → Fun 𝓤)
     (𝓣 : Tables 𝓤 H) (known : Triple 𝓤 (𝓣 .C #batch·together·outcome-at) (OutcomeAt 𝓤 H A mem run)) (l : ℕ → ℕ) (x : RefT (List Outcome))
     (all : Batch) (is : Is B.the-row all (mach all ∷ [])) (few : Few (length (x .now)) all) where
-  -- what `outcome_at`'s triple binds outside, and that what it asks is had for nothing
+  -- What `outcome_at`'s triple binds outside, and that what it asks is had for nothing.
   abbrev to-outcome-at : ℕ → OutcomeAt 𝓤 H A mem run .Ghost
   to-outcome-at i = ((tt, tt, tt, (all, (i, tt)), (mach all ∷ [], (vint w64 i ∷ [], tt))), tt)
 
@@ -94,7 +94,7 @@ module _ {M : Type 1} (𝓤 : URA M) (H : Heap 𝓤) (A : Atoms 𝓤) (W : Given
       owned ! usize (Is usize) (uint-makes 𝓤 H A W w64) i _ (refl, omega (arith, small)) $ fjoin ! $
       owned ! B.the-row (Is B.the-row) (LL.makes B.the-type B′.the-plain 𝓤 H A) all _ is $ fjoin ! $ move ! (1 ∷ 0 ∷ []) $ done !
 
-  -- what the test shows of i
+  -- What the test shows of i.
   small : (i : ℕ) → i < all .count
       → (i < length (stored all (x .now) i)) × (i < 32) × (i + 1 < 2 ^ 64) × (i * 8 < 2 ^ 64) × (i < length (all .outcomes))
   small i lt = (
