@@ -29,6 +29,7 @@ use Rattle.ffi.proofs.turncheck_merge.Reads as merge
 use Rattle.ffi.proofs.turncheck_page.Reads as page
 use Rattle.ffi.proofs.turncheck_read.Reads as read
 use Rattle.ffi.proofs.turncheck_replay.Reads as replay
+use Rattle.ffi.proofs.turncheck_sequentialize.Reads as sequentialize
 use Rattle.ffi.proofs.turncheck_write.Reads as write
 
 -- Two numbers that say one reply are the same ..
@@ -89,6 +90,14 @@ pub page-determined : (κs : Lfts 3) (bytes schedule store : RefT (List ℕ)) (r
     → page.Post κs (bytes, (schedule, (store, tt))) s (bytes, (schedule, (at-last store new′, tt)))
     → (r ≡ s) × (new ≡ new′)
 page-determined κs bytes schedule store r s new new′ p q =
+    by-reading (now bytes) (λ n e. both (rw e at p) (rw e at q)) (λ m rest e. both (rw e at p) (rw e at q))
+
+-- The rules of the sequential system.
+pub sequentialize-determined : (κs : Lfts 2) (bytes store : RefT (List ℕ)) (r s : ℕ) (new new′ : List ℕ)
+    → sequentialize.Post κs (bytes, (store, tt)) r (bytes, (at-last store new, tt))
+    → sequentialize.Post κs (bytes, (store, tt)) s (bytes, (at-last store new′, tt))
+    → (r ≡ s) × (new ≡ new′)
+sequentialize-determined κs bytes store r s new new′ p q =
     by-reading (now bytes) (λ n e. both (rw e at p) (rw e at q)) (λ m rest e. both (rw e at p) (rw e at q))
 
 -- The line table, in a store that holds bytes at exit, as its type says.

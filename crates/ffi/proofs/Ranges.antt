@@ -40,7 +40,11 @@ use Rattle.page.specs.declared.Paged.the-variants as paging
 use Rattle.page.specs.Answer.{replayRefusal, pageRefusal, pagedBy, pagedOf}
 use Rattle.page.specs.Page.{pageOf}
 use Rattle.page.proofs.Pages.{pageable, page-length}
-use Rattle.ffi.specs.Replies.{FieldsFit, ReplyFits, writeReply, linesReply, judgeReply, replayReply, pageReply, followReply}
+use Rattle.sequential.specs.declared.Printed.{Printed}
+use Rattle.sequential.specs.declared.Printed.the-variants as printing
+use Rattle.sequential.specs.Answer.{plain, modelRefusal, textFor, printRefusal, printedBy, printedOf}
+use Rattle.sequential.proofs.Bounds.{text-bound}
+use Rattle.ffi.specs.Replies.{FieldsFit, ReplyFits, writeReply, linesReply, judgeReply, replayReply, pageReply, followReply, printReply}
 
 -- A valid model is refused by 7 alone, where a store is too small.
 seven : (m : Model) (room : Bool) → Valid m → storeRefusal m room ≤ 7
@@ -131,6 +135,20 @@ page-range m l size v = go (replayOf m l) refl (replay-ends m l v) (leb (length 
 pub page-fits : (m : Model) (l : List ℕ) (size : ℕ) {p : Paged} {n : ℕ} → Valid m → p ≡ pagedOf m l size → p ≡ paging.Length n
     → n < 4294967296
 page-fits m l size v e f = rw (sym e ∙ f) at (page-range m l size v)
+
+-- What the call that prints rules answers: the refusal, or a length far below what a number of 32 bits holds.
+pub print-range : (m : Model) (size : ℕ) → Valid m → ReplyFits (printReply (printedOf m size))
+unfolding printedOf printRefusal modelRefusal firstOf
+print-range m size v = rw v (go (plain m) (leb (length (textFor m)) size))
+  where
+    go : (p b : Bool) → ReplyFits (printReply (printedBy (firstOf (firstOf (0 ∷ refuse 21 p ∷ []) ∷ refuse 7 b ∷ [])) (textFor m)))
+    go true true = omega (arith, text-bound (valid-fits m .0 v))
+    go true false = (omega arith, omega arith)
+    go false b = (omega arith, omega arith)
+
+-- So a length that is answered fits.
+pub print-fits : (m : Model) (size : ℕ) {p : Printed} {n : ℕ} → Valid m → p ≡ printedOf m size → p ≡ printing.Length n → n < 4294967296
+print-fits m size v e f = rw (sym e ∙ f) at (print-range m size v)
 
 -- What the call that follows a log answers: the refusal, or a state below g and at most 2,048 rounds ..
 pub follow-range : (m : Model) (log : List ℕ) → Valid m → ReplyFits (followReply (followedOf m log))

@@ -8,7 +8,7 @@ use borrow.Author.Tests.{ne-eqb}
 use Rattle.model.specs.declared.Depths.{Depths}
 use Rattle.model.specs.declared.Shared.{Shared}
 use Rattle.replay.specs.declared.Replayed.the-variants as replayed
-use Rattle.ffi.specs.Replies.{Reply, refused, done, written, clear, long, found, stopped, reached, taken, none, paged, followed, judged}
+use Rattle.ffi.specs.Replies.{Reply, refused, done, written, clear, long, found, stopped, reached, taken, none, paged, followed, judged, printed}
 use Rattle.ffi.specs.Replies.{packed, numberOf, replyBy, replyOf, FieldsFit, ReplyFits, Says, replayReply, endKind}
 
 -- The low byte is the kind ..
@@ -72,6 +72,7 @@ refusal-told n d both h l = rw (
   ne-eqb n 40 (λ e. omega arith),
   ne-eqb n 41 (λ e. omega arith),
   ne-eqb n 42 (λ e. omega arith),
+  ne-eqb n 43 (λ e. omega arith),
 )
 
 -- Every reply in range is told by its number.
@@ -91,6 +92,7 @@ reply-told (paged n) h = rw (kind-told 40 n 0 0 (omega arith), long-told 40 n 0 
 reply-told (followed q n) h =
     parts-told 41 q (record { a = n; b = 0 }) (omega arith) (record { first = h .0; a = h .1; b = omega arith })
 reply-told (judged n) h = field-alone 42 n (omega arith) h
+reply-told (printed n) h = rw (kind-told 43 n 0 0 (omega arith), long-told 43 n 0 (omega arith) h)
 
 -- So the number of an answer whose reply is in range says that reply, where `a` is what the code has and `b` what is promised ..
 pub says : {A : Type 0} {a b : A} {r : ℕ} (reply : A → Reply) → a ≡ b → ReplyFits (reply b) → r ≡ numberOf (reply a)

@@ -20,8 +20,9 @@ use Rattle.judge.specs.declared.Judgement.{Judgement}
 use Rattle.judge.specs.Answer.{refusalOf, Answers, LeavesLines, LeavesSchedule}
 use Rattle.tray.specs.Answer.{firstReadingOf, Stands}
 use Rattle.tray.specs.Tray.{trayOf}
+use Rattle.sequential.specs.Answer.{printedOf, printStore}
 use Rattle.ffi.specs.Replies.{refused, done, Says, writeReply, linesReply, judgeReply, replayReply, pageReply, followReply, firstReply}
-use Rattle.ffi.specs.Replies.{batchReply}
+use Rattle.ffi.specs.Replies.{batchReply, printReply}
 
 -- What holds by what reading comes to: one thing of a refusal's number, or another of the model.
 abbrev pub Either : (ℕ → Type 0) → (Model → Type 0) → Read Model → Type 0
@@ -87,6 +88,12 @@ abbrev pub PageCall : List ℕ → List ℕ → ℕ → List ℕ → List ℕ �
 PageCall bytes schedule r old new =
     Either (λ n. Says r (refused n) × (new ≡ old))
     (λ m. Says r (pageReply (pagedOf m schedule (length old))) × (new ≡ pageStore m schedule old)) (readOf bytes)
+
+-- The rules of the sequential system of the model that was read: what that call answers, with the store as it leaves it.
+abbrev pub SequentializeCall : List ℕ → ℕ → List ℕ → List ℕ → Type 0
+SequentializeCall bytes r old new =
+    Either (λ n. Says r (refused n) × (new ≡ old))
+    (λ m. Says r (printReply (printedOf m (length old))) × (new ≡ printStore m old)) (readOf bytes)
 
 -- Following a log of the model that was read: what that call answers.
 abbrev pub FollowCall : List ℕ → List ℕ → ℕ → Type 0

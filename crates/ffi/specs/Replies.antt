@@ -18,13 +18,15 @@ use Rattle.record.specs.declared.Written.{Written}
 use Rattle.record.specs.declared.Written.the-variants as writing
 use Rattle.replay.specs.declared.Replayed.{Replayed}
 use Rattle.replay.specs.declared.Replayed.the-variants as replayed
+use Rattle.sequential.specs.declared.Printed.{Printed}
+use Rattle.sequential.specs.declared.Printed.the-variants as printing
 use Rattle.tray.specs.declared.FirstRecord.{FirstRecord}
 use Rattle.tray.specs.declared.FirstRecord.the-variants as firstRecord
 
 -- Everything that a call answers: a refusal's number; done; the length of a record that was written; the three verdicts, Found with
 -- its steps and depths; the last shared state and the depths of a replay that stopped elsewhere, or that reached the target; the length of
 -- the record taken from the front of a tray, or that there is none; the length of a page; the last shared state and the rounds of a log; how
--- many records of a tray were judged.
+-- many records of a tray were judged; the length of the rules that were printed.
 pub data Reply : Type 0 where
   refused : ℕ → Reply
   done : Reply
@@ -37,13 +39,15 @@ pub data Reply : Type 0 where
   paged : ℕ → Reply
   followed : ℕ → ℕ → Reply
   judged : ℕ → Reply
+  printed : ℕ → Reply
 
 -- A kind in the low byte, and three fields of 16 bits from bit 16 on.
 abbrev pub packed : ℕ → ℕ → ℕ → ℕ → ℕ
 packed kind x y z = kind + 65536 * (x + 65536 * (y + 65536 * z))
 
 -- The number of a reply: its kind, which is a refusal's own number, 0, or from 32 on, and what it carries in the first field; depths stand
--- in the second, A's, and the third, B's, a page's length reaches into the second, and a log's rounds stand there.
+-- in the second, A's, and the third, B's, the length of a page or of printed rules reaches into the second, and a log's rounds stand
+-- there.
 abbrev pub numberOf : Reply → ℕ
 numberOf (refused n) = packed n 0 0 0
 numberOf done = packed 0 0 0 0
@@ -58,6 +62,7 @@ numberOf none = packed 39 0 0 0
 numberOf (paged n) = packed 40 n 0 0
 numberOf (followed q n) = packed 41 q n 0
 numberOf (judged n) = packed 42 n 0 0
+numberOf (printed n) = packed 43 n 0 0
 
 -- The reply of a kind, a first field, the two others as depths, and the first two as one; a kind that no other reply has is a refusal's
 -- number.
@@ -73,7 +78,8 @@ replyBy kind x d both =
     (cond (eqb kind 38) (taken x)
     (cond (eqb kind 39) none
     (cond (eqb kind 40) (paged both)
-    (cond (eqb kind 41) (followed x (d .a)) (cond (eqb kind 42) (judged x) (refused kind))))))))))))
+    (cond (eqb kind 41) (followed x (d .a))
+    (cond (eqb kind 42) (judged x) (cond (eqb kind 43) (printed both) (refused kind)))))))))))))
 
 -- The reply that a number tells, by its low byte and its fields.
 abbrev pub replyOf : ℕ → Reply
@@ -87,7 +93,7 @@ pub record FieldsFit (x : ℕ) (d : Depths) : Type 0 where
   pub a : d .a < 65536
   pub b : d .b < 65536
 
--- A reply whose number tells it: refusals are 1 to 31, and what is carried fits in 16 bits, or a page's length in 32.
+-- A reply whose number tells it: refusals are 1 to 31, and what is carried fits in 16 bits, or the length of a text in 32.
 abbrev pub ReplyFits : Reply → Type 0
 ReplyFits (refused n) = (1 ≤ n) × (n ≤ 31)
 ReplyFits done = Unit {0}
@@ -102,6 +108,7 @@ ReplyFits none = Unit {0}
 ReplyFits (paged n) = n < 4294967296
 ReplyFits (followed q n) = (q < 65536) × (n < 65536)
 ReplyFits (judged n) = n < 65536
+ReplyFits (printed n) = n < 4294967296
 
 -- A number says a reply: it is that reply's number, and what it tells is that reply.
 pub record Says (r : ℕ) (a : Reply) : Type 0 where
@@ -156,3 +163,8 @@ followReply (following.Refused n) = refused n
 abbrev pub batchReply : Answer → Reply
 batchReply (batch.Judged n) = judged n
 batchReply (batch.Refused n) = refused n
+
+-- The reply to a call that prints the rules of the sequential system.
+abbrev pub printReply : Printed → Reply
+printReply (printing.Length n) = printed n
+printReply (printing.Refused n) = refused n

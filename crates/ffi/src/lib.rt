@@ -2,7 +2,7 @@
 ghost use mathlib.Core.Path.{_≡_};
 ghost use Prim.Native.Nat.{_<_};
 ghost use Rattle.ffi.specs.Calls.{ReadCall, WriteCall, MergeCall, SecondCall, MergedCall, LinesCall};
-ghost use Rattle.ffi.specs.Calls.{JudgeCall, ReplayCall, PageCall, FollowCall, FirstCall, BatchCall};
+ghost use Rattle.ffi.specs.Calls.{JudgeCall, ReplayCall, PageCall, FollowCall, FirstCall, BatchCall, SequentializeCall};
 ghost use Rattle.ffi.specs.Replies.{packed, FieldsFit, endKind};
 ghost use Rattle.model.specs.Valid.{Valid};
 use judge::Judgement;
@@ -15,6 +15,7 @@ use reach::Outcome;
 use record::Answer;
 use record::Written;
 use replay::Replayed;
+use sequential::Printed;
 use tray::FirstRecord;
 
 // The kinds of answers: a number's low byte. A refusal's kind is its own number, 1 to 31.
@@ -41,6 +42,8 @@ const PAGED: u64 = 40;
 const FOLLOWED: u64 = 41;
 
 const JUDGED: u64 = 42;
+
+const PRINTED: u64 = 43;
 
 // Reads a record: done where it is accepted.
 #[no_mangle]
@@ -184,6 +187,22 @@ pub extern "C" fn turncheck_page(bytes: &[u8], schedule: &[u8], store: &mut [u8]
         Answer::Accepted => match page::page(reading.model, schedule, store) {
             Paged::Length(n) => with_field(PAGED, n as u64),
             Paged::Refused(n) => n as u64,
+        },
+        Answer::Refused(n) => n as u64,
+    }
+}
+
+// Reads a record and prints the rules of its model's sequential system at the front of the store: printed, with the length of their text.
+#[no_mangle]
+pub extern "C" fn turncheck_sequentialize(bytes: &[u8], store: &mut [u8]) -> u64
+    ensures { λ r. ⌜ SequentializeCall (now (bytes .entry)) r (now (store .entry)) (now (store .exit)) ⌝ }
+{
+    let reading = record::read(bytes);
+    let answer = reading.answer;
+    match answer {
+        Answer::Accepted => match sequential::print(reading.model, store) {
+            Printed::Length(n) => with_field(PRINTED, n as u64),
+            Printed::Refused(n) => n as u64,
         },
         Answer::Refused(n) => n as u64,
     }

@@ -43,7 +43,7 @@ pub fn put_number(store: &mut [u8], at: usize, n: u64) -> usize
 }
 
 // How many digits a number has in base ten.
-fn digits_of(n: u64) -> usize
+pub fn digits_of(n: u64) -> usize
     ensures { λ r. ⌜ r ≡ length (decimal n) ⌝ }
 {
     let mut digits = 1;

@@ -1,0 +1,72 @@
+-- `put_line` meets its contract: the parts of a line, one behind the other.
+use native.Mathlib.Omega.{arith}
+use borrow.Author.Needs.{needs}
+use Rattle.sequential.proofs.Widths.{length-one, length-rule}
+use Rattle.sequential.specs.Text.{ruleText}
+use Rattle.writer.proofs.Puts.{_then_}
+use Rattle.sequential.proofs.line.put_line.Statement.{statement}
+use Rattle.sequential.proofs.line.put_line.Tie as tie
+
+put-digits-requires : tie.Need-put-digits-requires
+put-digits-requires c κs =
+    let args = c .before .before .before .before .args in
+    let size = length-rule (args .k) (args .r) (c .before .before .before .before .pre .0) in
+    let top = length-one (args .r .top) in
+    ((c .before .before .before .before .pre .0 .rounds, c .before .before .before .before .pre .0 .before), search needs)
+
+put-symbol-requires : tie.Need-put-symbol-requires
+put-symbol-requires c κs =
+    let args = c .before .before .before .before .before .before .before .before .args in
+    let size = length-rule (args .k) (args .r) (c .before .before .before .before .before .before .before .before .pre .0) in
+    let top = length-one (args .r .top) in
+    search needs
+
+put-byte-requires : tie.Need-put-byte-requires
+put-byte-requires c κs =
+    let args = c .before .before .before .before .before .before .before .before .before .before .before .before .args in
+    let size = length-rule (args .k) (args .r) (c .before .before .before .before .before .before .before .before .before .before .before .before .pre .0) in
+    let top = length-one (args .r .top) in
+    search needs
+
+put-digits-requires-2 : tie.Need-put-digits-requires-2
+put-digits-requires-2 c κs =
+    let args = c .before .before .before .before .before .before .before .before .before .before .before .before .before .before .before .before .args in
+    let size = length-rule (args .k) (args .r) (c .before .before .before .before .before .before .before .before .before .before .before .before .before .before .before .before .pre .0) in
+    let top = length-one (args .r .top) in
+    ((c .before .before .before .before .before .before .before .before .before .before .before .before .before .before .before .before .pre .0 .rounds, c .before .before .before .before .before .before .before .before .before .before .before .before .before .before .before .before .pre .0 .after), search needs)
+
+put-new-requires : tie.Need-put-new-requires
+put-new-requires c κs =
+    let args = c .before .before .before .before .before .before .before .before .before .before .before .before .before .before .before .before .before .before .before .before .args in
+    let size = length-rule (args .k) (args .r) (c .before .before .before .before .before .before .before .before .before .before .before .before .before .before .before .before .before .before .before .before .pre .0) in
+    let top = length-one (args .r .top) in
+    search needs
+
+put-byte-requires-2 : tie.Need-put-byte-requires-2
+put-byte-requires-2 c κs =
+    let args = c .before .before .before .before .before .before .before .before .before .before .before .before .before .before .before .before .before .before .before .before .before .before .before .before .args in
+    let size = length-rule (args .k) (args .r) (c .before .before .before .before .before .before .before .before .before .before .before .before .before .before .before .before .before .before .before .before .before .before .before .before .pre .0) in
+    let top = length-one (args .r .top) in
+    search needs
+
+same-length : tie.Need-same-length
+same-length c = search needs
+
+returns : tie.Need-returns
+unfolding ruleText
+returns c =
+    c .before .before .before .before .before .before .before .before .before .before .before .before .before .before .before .before .before .before .before .before .before .before .put-digits .ensures .0 then c .before .before .before .before .before .before .before .before .before .before .before .before .before .before .before .before .before .before .put-symbol .ensures then (c .before .before .before .before .before .before .before .before .before .before .before .before .before .before .put-byte .ensures then c .before .before .before .before .before .before .before .before .before .before .put-digits2 .ensures .0)
+    then c .before .before .before .before .before .before .put-new .ensures then c .before .before .put-byte2 .ensures
+
+pub put-line-spec : {M : Type 1} → statement M
+put-line-spec =
+    tie.close
+    (tie.spec
+    put-digits-requires
+    put-symbol-requires
+    put-byte-requires
+    put-digits-requires-2
+    put-new-requires
+    put-byte-requires-2
+    same-length
+    returns)
