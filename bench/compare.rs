@@ -1,6 +1,6 @@
 // Before anything is timed: both sides must say the same of a model and write the same schedule, which must reach the target on both, not
-// before its last step and as deep as the verdict says, and give the same page, and its log the same state in no more rounds; and both must
-// make the same one of two models.
+// before its last step and as deep as the verdict says, and give the same page, and its log the same state in no more rounds; both must
+// print the same rules of its sequential system; and both must make the same one of two models.
 use crate::{numbers, proved, reference};
 
 pub fn agree(record: &[u8]) -> Result<(), String> {
@@ -28,6 +28,7 @@ pub fn agree(record: &[u8]) -> Result<(), String> {
     if numbers::kind(verdict) == numbers::FOUND {
         same_schedule(record, &schedules[0][..2 * numbers::steps(verdict)], verdict)?;
     }
+    same_text(record)?;
     same_page(record, &[])
 }
 
@@ -111,4 +112,24 @@ fn same_page(record: &[u8], schedule: &[u8]) -> Result<(), String> {
         return Err("the pages differ".to_string());
     }
     Ok(())
+}
+
+// The rules of the sequential system, in a store with room and in one that is short of a byte; a model with tops or held rules has none.
+// The whole stores are compared.
+fn same_text(record: &[u8]) -> Result<(), String> {
+    let printed = same_print(record, numbers::TEXT)?;
+    match numbers::printed(printed) {
+        Some(size) if same_print(record, size - 1)? == numbers::SHORT => Ok(()),
+        None if printed == numbers::HELD_OR_TOP => Ok(()),
+        _ => Err(format!("sequentialize says {printed}, or takes a short store")),
+    }
+}
+
+fn same_print(record: &[u8], size: usize) -> Result<u64, String> {
+    let (mut store, mut other) = (vec![0; size], vec![0; size]);
+    let printed = (proved::sequentialize(record, &mut store), reference::sequentialize(record, &mut other));
+    if printed.0 != printed.1 || store != other {
+        return Err(format!("sequentialize says {} and {}, or the texts differ", printed.0, printed.1));
+    }
+    Ok(printed.0)
 }

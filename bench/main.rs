@@ -37,8 +37,8 @@ struct Row {
 type Call = fn(&Case) -> Pair;
 
 // The calls, and which families with tops, and which with held rules, have a row: all for the judgement, and for each other call the
-// dense ones with some in both threads.
-const CALLS: [(&str, Call, RangeInclusive<usize>, RangeInclusive<usize>); 7] = [
+// dense ones with some in both threads; but none for the sequential system, which such models do not have.
+const CALLS: [(&str, Call, RangeInclusive<usize>, RangeInclusive<usize>); 8] = [
     ("judgement", judgement, 0..=3, 0..=5),
     ("line table", line_table, 1..=1, 1..=1),
     ("replay", replay, 1..=1, 1..=1),
@@ -46,6 +46,7 @@ const CALLS: [(&str, Call, RangeInclusive<usize>, RangeInclusive<usize>); 7] = [
     ("follow", follow, 1..=1, 1..=1),
     ("read", read, 1..=1, 1..=1),
     ("merge", merge, 1..=1, 1..=1),
+    ("sequentialize", sequentialize, 1..=0, 1..=0),
 ];
 
 // Each row is timed in so many rounds, and the best counts: a machine that is busy for some seconds spoils one of them.
@@ -215,6 +216,16 @@ fn merge(case: &Case) -> Pair {
     best(
         || proved::merge(black_box(&case.record), &case.record, &mut store),
         || reference::merge(black_box(&case.record), &case.record, &mut other),
+    )
+}
+
+// The rules of the sequential system: the longest texts are those of the dense models and of the crowded ones.
+fn sequentialize(case: &Case) -> Pair {
+    // not zeros, as for a page
+    let (mut store, mut other) = (vec![1; numbers::TEXT], vec![1; numbers::TEXT]);
+    best(
+        || proved::sequentialize(black_box(&case.record), &mut store),
+        || reference::sequentialize(black_box(&case.record), &mut other),
     )
 }
 

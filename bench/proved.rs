@@ -8,6 +8,7 @@ extern "C" {
     fn turncheck_page(record: *const u8, n: usize, schedule: *const u8, l: usize, store: *mut u8, m: usize) -> u64;
     fn turncheck_follow(record: *const u8, n: usize, log: *const u8, l: usize) -> u64;
     fn turncheck_batch(tray: *const u8, n: usize, list: *mut u8, m: usize, store: *mut u8, l: usize) -> u64;
+    fn turncheck_sequentialize(record: *const u8, n: usize, store: *mut u8, m: usize) -> u64;
 }
 
 // Each call is handed the places and lengths of slices that live as long as it runs; its contract asks for no more.
@@ -46,4 +47,8 @@ pub fn page(record: &[u8], schedule: &[u8], store: &mut [u8]) -> u64 {
 pub fn batch(tray: &[u8], list: &mut [u8], store: &mut [u8]) -> u64 {
     let (n, m, l) = (tray.len(), list.len(), store.len());
     unsafe { turncheck_batch(tray.as_ptr(), n, list.as_mut_ptr(), m, store.as_mut_ptr(), l) }
+}
+
+pub fn sequentialize(record: &[u8], store: &mut [u8]) -> u64 {
+    unsafe { turncheck_sequentialize(record.as_ptr(), record.len(), store.as_mut_ptr(), store.len()) }
 }

@@ -5,12 +5,15 @@ mod merge;
 mod page;
 mod record;
 mod run;
+mod sequential;
 mod table;
 mod walk;
 mod witness;
 mod writer;
 
-use crate::numbers::{packed, with_depths, CLEAR, DONE, FOLLOWED, FOUND, LONG, PAGED, REACHED, STOPPED, WRITTEN};
+use crate::numbers::{
+    packed, with_depths, CLEAR, DONE, FOLLOWED, FOUND, LONG, PAGED, PRINTED, REACHED, STOPPED, WRITTEN,
+};
 
 #[derive(Clone, Copy)]
 pub enum Right {
@@ -133,6 +136,14 @@ pub fn follow(record: &[u8], log: &[u8]) -> u64 {
 pub fn page(record: &[u8], schedule: &[u8], store: &mut [u8]) -> u64 {
     match record::read(record).and_then(|model| page::page(&model, schedule, store)) {
         Ok(size) => packed(PAGED, size as u64),
+        Err(number) => number,
+    }
+}
+
+// The rules of the sequential system go to the front of the store.
+pub fn sequentialize(record: &[u8], store: &mut [u8]) -> u64 {
+    match record::read(record).and_then(|model| sequential::print(&model, store)) {
+        Ok(size) => packed(PRINTED, size as u64),
         Err(number) => number,
     }
 }

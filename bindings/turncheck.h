@@ -43,6 +43,7 @@ extern "C" {
 #define TURNCHECK_SCHEDULE_BYTES 8190 /* the longest schedule: 4,095 steps; what turncheck_judge and turncheck_batch ask for */
 #define TURNCHECK_LOG_BYTES 4095      /* the longest log: 4,095 steps */
 #define TURNCHECK_PAGE_BYTES 299008   /* the longest page, that of 4,095 steps: 73 bytes for each step and 73 for the foot line */
+#define TURNCHECK_TEXT_BYTES 258624   /* the longest text of rules: 14,912 of them, of a model with G = 4, K = 3 and 64+64 rules */
 #define TURNCHECK_TRAY_RECORDS 32     /* the most records of a tray that are judged together */
 #define TURNCHECK_RESULT_BYTES 6      /* the result of one of them, in turncheck_batch's list */
 #define TURNCHECK_LIST_BYTES 192      /* the longest list: the results of 32 records */
@@ -68,7 +69,8 @@ enum turncheck_refusal {
     TURNCHECK_REFUSED_SYMBOL_RANGE = 17,   /* a first symbol, a top or a rule's symbol is not below its thread's symbol count */
     TURNCHECK_REFUSED_LOG = 18,            /* the log has more than 4,095 bytes, or one of its bytes has bit 6 set */
     TURNCHECK_REFUSED_TRAY_COUNT = 19,     /* the tray has more than 32 records */
-    TURNCHECK_REFUSED_LIST_TOO_SMALL = 20  /* the list has fewer places than the tray has records */
+    TURNCHECK_REFUSED_LIST_TOO_SMALL = 20, /* the list has fewer places than the tray has records */
+    TURNCHECK_REFUSED_HELD_OR_TOP = 21     /* the model has held rules or named tops, and so no sequential system */
 };
 
 /* What a call answers where it does not refuse. */
@@ -84,11 +86,12 @@ enum turncheck_kind {
     TURNCHECK_NONE = 39,     /* turncheck_first: the tray is empty */
     TURNCHECK_PAGED = 40,    /* turncheck_page: TURNCHECK_PAGE_LENGTH bytes were written */
     TURNCHECK_FOLLOWED = 41, /* turncheck_follow: the log ends in TURNCHECK_STATE, and takes TURNCHECK_ROUNDS rounds at the fewest */
-    TURNCHECK_JUDGED = 42    /* turncheck_batch: the list has the results of TURNCHECK_RECORDS records */
+    TURNCHECK_JUDGED = 42,   /* turncheck_batch: the list has the results of TURNCHECK_RECORDS records */
+    TURNCHECK_PRINTED = 43   /* turncheck_sequentialize: TURNCHECK_TEXT_LENGTH bytes were written */
 };
 
 /* The parts of a number: its kind in bits 0 to 7, and three fields of 16 bits, in bits 16 to 31, 32 to 47 and 48 to 63. The length of a
- * page takes the first two, bits 16 to 47. Fields that a kind has no use for are 0, and so are the other bits. */
+ * page or of a text takes the first two, bits 16 to 47. Fields that a kind has no use for are 0, and so are the other bits. */
 #define TURNCHECK_KIND(number) ((unsigned)((number)&0xFF))
 #define TURNCHECK_FIELD1(number) ((unsigned)((number) >> 16 & 0xFFFF))
 #define TURNCHECK_FIELD2(number) ((unsigned)((number) >> 32 & 0xFFFF))
@@ -106,6 +109,7 @@ enum turncheck_kind {
 #define TURNCHECK_ROUNDS(number) TURNCHECK_FIELD2(number)  /* TURNCHECK_FOLLOWED: rounds, at most 2,048 */
 #define TURNCHECK_RECORDS(number) TURNCHECK_FIELD1(number) /* TURNCHECK_JUDGED: records, at most 32 */
 #define TURNCHECK_PAGE_LENGTH(number) ((size_t)((number) >> 16 & 0xFFFFFFFF)) /* TURNCHECK_PAGED: at most 299,008 */
+#define TURNCHECK_TEXT_LENGTH(number) TURNCHECK_PAGE_LENGTH(number)           /* TURNCHECK_PRINTED: 893 to 258,624 */
 
 /* The verdict on one record of a tray. */
 enum turncheck_verdict { TURNCHECK_VERDICT_CLEAR = 0, TURNCHECK_VERDICT_LONG = 1, TURNCHECK_VERDICT_FOUND = 2 };
@@ -180,6 +184,18 @@ uint64_t turncheck_follow(const uint8_t *record, size_t record_size, const uint8
  * refused comes before all else, 1 to 5, 11, 13 or 17; then 19; then 20 for a list whose places, list_size / 6, are fewer than the records;
  * and last 7 for a store below TURNCHECK_SCHEDULE_BYTES, whatever the tray. */
 uint64_t turncheck_batch(const uint8_t *tray, size_t tray_size, uint8_t *list, size_t list_size, uint8_t *store, size_t store_size);
+
+/* Prints the sequential system of a record's model, a pushdown system with one stack for both threads, for checkers of single-threaded
+ * rule tables: A makes all its turns on copies of the shared state that are guessed for the rounds, then B makes its turns on what A left,
+ * and where B ends a round A must have begun the next. Writes its rules to the front of the store, in ASCII; the bytes beyond keep their
+ * value. A rule is a line: state, top, next state, and the symbols that come in the top's place, none to two, the first on top; with one
+ * blank between and a line feed behind. A state is a turn counter, 1 to K + 1, and K copies of the shared state, a digit each. Symbols are
+ * in base ten: 0 to 15 are A's, 16 to 31 B's, 32 is the mark at the bottom for A and 33 for B, 34 is the check symbol, and 35 a helper. The
+ * rules ascend by state, top, next state, number of new symbols and these, all as numbers, so each is there once. From counter 1 and copies
+ * (start, g2 to gK), with A's first symbol over 32, the check symbol can come on top at counter 1 and copies (g2 to gK, e) exactly if a run
+ * of K rounds has the shared states g2 to gK before rounds 2 to K and ends in e. Answers TURNCHECK_PRINTED with how many bytes the text
+ * has; or refusal 1 to 6, 11, 13 or 17, then 21, or then 7 for a store with fewer. */
+uint64_t turncheck_sequentialize(const uint8_t *record, size_t record_size, uint8_t *store, size_t store_size);
 
 #ifdef __cplusplus
 }

@@ -44,6 +44,8 @@ static void *call(void *unused) {
         answer = turncheck_follow(record.at, record.size, first.at, first.size);
     else if (strcmp(name, "batch") == 0)
         answer = turncheck_batch(record.at, record.size, first.at, first.size, second.at, second.size);
+    else if (strcmp(name, "sequentialize") == 0)
+        answer = turncheck_sequentialize(record.at, record.size, first.at, first.size);
     return NULL;
 }
 
@@ -112,11 +114,24 @@ static int begins(const struct bytes *store, const struct bytes *expected) {
     return 1;
 }
 
-/* The same by a word: `?` for anything, `=` for the record, other words for their bytes, no word for no bytes. */
+/* The same by a size and a sum: so many bytes have this FNV-1a sum of 64 bits. */
+static int sums(const struct bytes *store, const char *text) {
+    static struct bytes front;
+    char *rest;
+    uint64_t sum = 0xCBF29CE484222325;
+    front = *store;
+    front.size = strtoul(text, &rest, 10);
+    if (front.size > store->size || *rest != ':') return 0;
+    for (size_t i = 0; i < front.size; i++) sum = (sum ^ front.at[i]) * 0x100000001B3;
+    return sum == strtoull(rest + 1, NULL, 16) && begins(store, &front);
+}
+
+/* The same by a word: `?` for anything, `=` for the record, `~` for a size and a sum, other words for their bytes, no word for no bytes. */
 static int holds(const struct bytes *store, const char *word) {
     static struct bytes expected;
     if (word != NULL && strcmp(word, "?") == 0) return 1;
     if (word != NULL && strcmp(word, "=") == 0) return begins(store, &record);
+    if (word != NULL && *word == '~') return sums(store, word + 1);
     parse(word, &expected);
     return begins(store, &expected);
 }
@@ -141,6 +156,8 @@ static void tell(uint64_t n, int read, char *words, size_t size) {
         snprintf(words, size, "rounds:%u:%u", field, TURNCHECK_ROUNDS(n));
     else if (kind == TURNCHECK_JUDGED && n == ((uint64_t)field << 16 | kind))
         snprintf(words, size, "judged:%u", field);
+    else if (kind == TURNCHECK_PRINTED && n == ((uint64_t)TURNCHECK_TEXT_LENGTH(n) << 16 | kind))
+        snprintf(words, size, "printed:%zu", TURNCHECK_TEXT_LENGTH(n));
     else
         snprintf(words, size, "number:%" PRIu64, n);
 }
@@ -231,7 +248,8 @@ static int agrees(char **word, size_t stack) {
     int judge = strcmp(word[0], "judge") == 0, batch = strcmp(word[0], "batch") == 0;
     int pair = strcmp(word[0], "page") == 0 || strcmp(word[0], "merge") == 0; /* bytes that are read, and a store */
     int bytes = pair || strcmp(word[0], "replay") == 0 || strcmp(word[0], "follow") == 0;
-    int stores = judge || batch ? 2 : strcmp(word[0], "write") == 0 || strcmp(word[0], "lines") == 0;
+    int one = strcmp(word[0], "write") == 0 || strcmp(word[0], "lines") == 0 || strcmp(word[0], "sequentialize") == 0;
+    int stores = judge || batch ? 2 : one;
     char **wanted = word + 1 + stores + bytes + pair;
     if (bytes) parse(word[1], &first);
     if (stores > 0) lend(size_of(word[1]), &first);

@@ -48,6 +48,15 @@ fn holds(store: &[u8], expected: &[u8]) -> bool {
     store.starts_with(expected) && store[expected.len()..].iter().all(|&b| b == FILLER)
 }
 
+/// The same by a size and a sum: so many bytes have this FNV-1a sum of 64 bits.
+fn sums(store: &[u8], text: &str) -> bool {
+    let (size, sum) = text.split_once(':').expect("no sum");
+    let Some(front) = store.get(..number(size)) else { return false };
+    let add = |sum: u64, &byte: &u8| (sum ^ u64::from(byte)).wrapping_mul(0x100000001B3);
+    let found = front.iter().fold(0xCBF29CE484222325, add);
+    u64::from_str_radix(sum, 16) == Ok(found) && holds(store, front)
+}
+
 /// An answer in words.
 fn told<T>(answer: Result<T, Refusal>, words: impl FnOnce(T) -> String) -> String {
     match answer {
@@ -68,12 +77,13 @@ fn last(l: Last) -> String {
     format!("{}:{}:{}:{}", if l.target { "target" } else { "state" }, l.state, l.depths.a, l.depths.b)
 }
 
-/// What is expected of a store, by a word: `?` for anything, `=` for the record, other words for their bytes, no word for no bytes.
+/// What is expected of a store, by a word: `?` for anything, `=` for the record, `~` for a size and a sum, other words for their bytes, no
+/// word for no bytes.
 fn expects(word: Option<&&str>, record: &[u8], store: &[u8]) -> bool {
     match word {
         Some(&"?") => true,
         Some(&"=") => holds(store, record),
-        Some(text) => holds(store, &parse(text)),
+        Some(text) => text.strip_prefix('~').map_or_else(|| holds(store, &parse(text)), |sum| sums(store, sum)),
         None => holds(store, &[]),
     }
 }
@@ -187,6 +197,19 @@ fn followed(record: &[u8], word: &[&str], stack: usize) -> bool {
     }
 }
 
+/// A call that is lent one store beside the record.
+fn filled<T: Send>(
+    record: &[u8],
+    word: &[&str],
+    stack: usize,
+    call: fn(&[u8], &mut [u8]) -> Result<T, Refusal>,
+    words: fn(T) -> String,
+) -> bool {
+    let mut store = lent(word[0]);
+    let answer = on_thread(stack, || call(record, &mut store));
+    told(answer, words) == word[1] && expects(word.get(2), record, &store)
+}
+
 /// One case, by its words: the call, what is lent beside the record, the answer, what the stores then hold.
 fn agrees(record: &[u8], word: &[&str], stack: usize) -> bool {
     match word[0] {
@@ -196,16 +219,9 @@ fn agrees(record: &[u8], word: &[&str], stack: usize) -> bool {
             let schedule = parse(word[1]);
             told(on_thread(stack, || turncheck::replay(record, &schedule)), last) == word[2]
         }
-        "write" => {
-            let mut store = lent(word[1]);
-            let answer = on_thread(stack, || turncheck::write(record, &mut store));
-            told(answer, |n| format!("length:{n}")) == word[2] && expects(word.get(3), record, &store)
-        }
-        "lines" => {
-            let mut store = lent(word[1]);
-            let answer = on_thread(stack, || turncheck::lines(record, &mut store));
-            told(answer, |()| "done".into()) == word[2] && expects(word.get(3), record, &store)
-        }
+        "write" => filled(record, &word[1..], stack, turncheck::write, |n| format!("length:{n}")),
+        "lines" => filled(record, &word[1..], stack, turncheck::lines, |()| "done".into()),
+        "sequentialize" => filled(record, &word[1..], stack, turncheck::sequentialize, |n| format!("printed:{n}")),
         "merge" => {
             let (second, mut store) = (parse(word[1]), lent(word[2]));
             let answer = on_thread(stack, || turncheck::merge(record, &second, &mut store));

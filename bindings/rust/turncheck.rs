@@ -22,6 +22,8 @@ pub const SCHEDULE_BYTES: usize = 8190;
 pub const LOG_BYTES: usize = 4095;
 /// The longest page, that of 4,095 steps: 73 bytes for each step and 73 for the foot line.
 pub const PAGE_BYTES: usize = 299008;
+/// The longest text of rules: 14,912 of them, of a model with G = 4, K = 3 and 64 rules in each thread.
+pub const TEXT_BYTES: usize = 258624;
 /// The most records of a tray that are judged together: a list with so many places is enough.
 pub const TRAY_RECORDS: usize = 32;
 
@@ -68,6 +70,8 @@ pub enum Refusal {
     TrayCount = 19,
     /// The list has fewer places than the tray has records.
     ListTooSmall = 20,
+    /// The model has held rules or named tops, and so no sequential system.
+    HeldOrTop = 21,
 }
 
 /// A verdict on a model.
@@ -175,6 +179,7 @@ extern "C" {
         store: *mut u8,
         store_size: usize,
     ) -> u64;
+    fn turncheck_sequentialize(record: *const u8, record_size: usize, store: *mut u8, store_size: usize) -> u64;
 }
 
 /// The kinds of answers that are no refusals: the low byte of a number.
@@ -190,6 +195,7 @@ const NONE: u16 = 39;
 const PAGED: u16 = 40;
 const FOLLOWED: u16 = 41;
 const JUDGED: u16 = 42;
+const PRINTED: u16 = 43;
 
 /// The greatest depth: that of 4,095 pushes upon the starting symbol.
 const DEEPEST: u16 = 4096;
@@ -200,6 +206,11 @@ const RESULT_BYTES: usize = 6;
 /// A number's kind, whose upper byte is 0, and the three fields above it.
 fn parts(number: u64) -> [u16; 4] {
     [0, 16, 32, 48].map(|bits| (number >> bits) as u16)
+}
+
+/// The length in a number's first two fields.
+fn length(low: u16, high: u16) -> usize {
+    usize::from(low) + (usize::from(high) << 16)
 }
 
 /// The depths in a number's second and third field.
@@ -230,6 +241,7 @@ fn refusal(number: u64) -> Refusal {
         18 => Refusal::Log,
         19 => Refusal::TrayCount,
         20 => Refusal::ListTooSmall,
+        21 => Refusal::HeldOrTop,
         _ => panic!("turncheck: the library answers {number:#x}, which this wrapper does not know"),
     }
 }
@@ -339,7 +351,7 @@ pub fn page(record: &[u8], schedule: &[u8], store: &mut [u8]) -> Result<usize, R
         )
     };
     match parts(number) {
-        [PAGED, low, high, 0] => Ok(usize::from(low) + (usize::from(high) << 16)),
+        [PAGED, low, high, 0] => Ok(length(low, high)),
         _ => Err(refusal(number)),
     }
 }
@@ -389,6 +401,24 @@ pub fn batch(tray: &[u8], list: &mut [Outcome], store: &mut [u8]) -> Result<usiz
             list.iter_mut().zip(judged).for_each(|(place, result)| *place = outcome(result));
             Ok(count.into())
         }
+        _ => Err(refusal(number)),
+    }
+}
+
+/// Prints the sequential system of a record's model, a pushdown system with one stack for both threads, for checkers of single-threaded
+/// rule tables: A makes all its turns on copies of the shared state that are guessed for the rounds, then B makes its turns on what A left,
+/// and where B ends a round A must have begun the next. Writes its rules to the front of the store, in ASCII; the bytes beyond keep their
+/// value. Answers how many bytes were written. A rule is a line: state, top, next state, and the symbols that come in the top's place, none
+/// to two, the first on top; with one blank between and a line feed behind. A state is a turn counter, 1 to K + 1, and K copies of the
+/// shared state, a digit each. Symbols are in base ten: 0 to 15 are A's, 16 to 31 B's, 32 is the mark at the bottom for A and 33 for B, 34
+/// is the check symbol, and 35 a helper. The rules ascend by state, top, next state, number of new symbols and these, all as numbers, so
+/// each is there once. From counter 1 and copies (start, g2 to gK), with A's first symbol over 32, the check symbol can come on top at
+/// counter 1 and copies (g2 to gK, e) exactly if a run of K rounds has the shared states g2 to gK before rounds 2 to K and ends in e. A
+/// model with held rules or named tops is refused, and then a short store.
+pub fn sequentialize(record: &[u8], store: &mut [u8]) -> Result<usize, Refusal> {
+    let number = unsafe { turncheck_sequentialize(record.as_ptr(), record.len(), store.as_mut_ptr(), store.len()) };
+    match parts(number) {
+        [PRINTED, low, high, 0] => Ok(length(low, high)),
         _ => Err(refusal(number)),
     }
 }

@@ -1,9 +1,9 @@
 -- How long the text can be: a line has at most 19 bytes, at one state and top there are at most 66 rules, and so on up. The bounds are
 -- rough, and far below what a number of 32 bits holds.
 use mathlib.Core.Bool.{Bool, true, false, cond, _&&_}
-use mathlib.Core.List.{List, [], _∷_, _++_, map}
+use mathlib.Core.List.{List, [], _∷_, _++_}
 use mathlib.Core.Path.{_≡_, refl, ap}
-use Prim.Native.Nat.{ℕ, zero, suc, _+_, _*_, _^_, _≤_, _<_}
+use Prim.Native.Nat.{ℕ, zero, suc, _+_, _*_, _^_, _≤_}
 use native.Mathlib.Nat.{le-trans, suc-mul, mul-le-mul, pow-le-pow-left, pow-le-pow-right}
 use native.Mathlib.Omega.{arith}
 use lib.Dec.{leb, eqb}
@@ -14,7 +14,7 @@ use Rattle.model.specs.declared.ThreadId.{ThreadId}
 use Rattle.model.specs.declared.ThreadId.the-variants.{A, B}
 use Rattle.model.specs.Fits.{Fits}
 use Rattle.model.specs.Lines.{digits}
-use Rattle.model.specs.Rules.{ruleAt, put}
+use Rattle.model.specs.Rules.{ruleAt}
 use Rattle.model.specs.Walk.{threadOf}
 use Rattle.text.specs.Text.{decimal}
 use Rattle.sequential.specs.Allowed.{symbolOf, closing, at, copy, Allowed, Kind, acts, passes, closes, begins}

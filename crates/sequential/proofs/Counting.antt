@@ -1,5 +1,5 @@
 -- Bytes put or only counted, one part after another; and what a loop over the numbers below n has put or counted is the text of `below`.
-use mathlib.Core.Bool.{Bool, true, false, cond}
+use mathlib.Core.Bool.{Bool, true, false}
 use mathlib.Core.List.{List, [], _∷_, _++_, append-assoc, append-nil}
 use mathlib.Core.Path.{_≡_, refl}
 use Prim.Native.Nat.{ℕ, zero, suc, _+_, _≤_, _<_}
@@ -7,10 +7,10 @@ use native.Mathlib.Decide.{decLt}
 use native.Mathlib.Numerals.{add-one}
 use native.Mathlib.Omega.{arith}
 use lib.ListN.{length, length-append}
-use lib.Seq.{sets, length-sets}
+use lib.Seq.{length-sets}
 use Rattle.writer.specs.Put.{Put}
 use Rattle.writer.proofs.Puts.{_then_}
-use Rattle.sequential.specs.Listed.{below, onlyIf}
+use Rattle.sequential.specs.Listed.{below}
 use Rattle.sequential.specs.Parts.{Counted}
 use Rattle.sequential.specs.System.{StackRule}
 use Rattle.sequential.specs.Text.{ruleText, textOf}
@@ -18,10 +18,6 @@ use Rattle.sequential.specs.Text.{ruleText, textOf}
 -- What is put.
 pub written : {l m : List ℕ} {i j : ℕ} {bytes : List ℕ} → Put l m i j bytes → Counted true l m i j bytes
 written p = record { stored = p .stored; ends = p .ends }
-
--- What is only counted.
-pub counted : (l : List ℕ) (i : ℕ) (bytes : List ℕ) → Counted false l l i (i + length bytes) bytes
-counted l i bytes = record { stored = refl; ends = refl }
 
 -- Nothing at all.
 pub nothing : (write : Bool) (l : List ℕ) (i : ℕ) → Counted write l l i i []

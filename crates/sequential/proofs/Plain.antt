@@ -1,25 +1,21 @@
 -- What the call prints for a model that it does not refuse is the system that the model's runs are read off: such a model fits and has no
 -- held rule, and its rules are listed exactly if they are allowed.
-use mathlib.Core.Bool.{Bool, true, false}
-use mathlib.Core.List.{List, _∷_, _++_}
-use mathlib.Core.Logic.{_↔_}
+use mathlib.Core.Bool.{false}
+use mathlib.Core.List.{List}
 use mathlib.Core.Path.{_≡_, sym}
 use Prim.Native.Nat.{ℕ}
 use lib.Dec.{T}
 use Rattle.model.specs.declared.Model.{Model}
 use Rattle.model.specs.declared.Thread.{Thread}
-use Rattle.model.specs.declared.ThreadId.{ThreadId}
 use Rattle.model.specs.declared.ThreadId.the-variants.{A, B}
 use Rattle.model.specs.Bits.{allZero}
 use Rattle.model.specs.Fits.{Fits}
 use Rattle.model.specs.Rules.{heldAt}
 use Rattle.model.specs.Valid.{faultOf}
-use Rattle.model.specs.Walk.{threadOf}
 use Rattle.model.proofs.Checks.{both-pass}
 use Rattle.model.proofs.Marks.{no-bit}
 use Rattle.model.proofs.Ranges.{valid-fits}
 use Rattle.model.proofs.Tests.{both}
-use Rattle.sequential.specs.Allowed.{Allowed}
 use Rattle.sequential.specs.Answer.{unnamed, plainThread, plain, modelRefusal}
 use Rattle.sequential.specs.Listed.{Listed}
 use Rattle.sequential.specs.Rounds.{Reduces}

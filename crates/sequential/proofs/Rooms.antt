@@ -1,5 +1,5 @@
 -- Room for the next part where there is room for the whole; and the parts of the rules at a state and a top.
-use mathlib.Core.Bool.{Bool, true, false}
+use mathlib.Core.Bool.{Bool}
 use mathlib.Core.List.{List, [], _∷_, _++_}
 use mathlib.Core.Path.{_≡_, refl, ap}
 use Prim.Native.Nat.{ℕ, zero, suc, _+_, _≤_, _<_}
@@ -8,7 +8,7 @@ use lib.ListN.{length, length-append, getD, take}
 use borrow.Author.Tests.{le-leb, lt-leb}
 use Rattle.model.specs.declared.Model.{Model}
 use Rattle.model.specs.declared.Thread.{Thread}
-use Rattle.model.specs.Fits.{ThreadFits, RuleFits}
+use Rattle.model.specs.Fits.{ThreadFits}
 use Rattle.model.specs.Lines.{digits}
 use Rattle.model.proofs.Positions.{length-digits}
 use Rattle.sequential.specs.Allowed.{at}

@@ -1,15 +1,14 @@
 -- The text of a line part by part, and how long each part is: a state has K+1 bytes, and a symbol one more than its digits.
 use mathlib.Core.List.{List, [], _∷_, _++_, map, map-append, append-nil}
 use mathlib.Core.Path.{_≡_, refl}
-use Prim.Native.Nat.{ℕ, zero, suc, _+_, _*_, _≤_, _<_}
+use Prim.Native.Nat.{ℕ, suc, _+_, _*_, _≤_, _<_}
 use native.Mathlib.Numerals.{add-one}
 use native.Mathlib.Omega.{arith}
-use lib.ListN.{length, length-append, length-map, getD, set, take, drop}
+use lib.ListN.{length, length-append, length-map, getD, set, take}
 use lib.Seq.{length-take-le, take-suc}
 use Rattle.model.specs.declared.Right.{Right}
 use Rattle.model.specs.declared.Right.the-variants.{Remove, Swap, Push}
 use Rattle.model.specs.Fits.{RightBelow}
-use Rattle.model.specs.Lines.{States}
 use Rattle.model.specs.Rules.{put}
 use Rattle.text.specs.Text.{decimal}
 use Rattle.text.proofs.Numbers.{digits-2}

@@ -8,7 +8,6 @@ use Prim.Native.Nat.{ℕ, suc, _+_, _≤_, _<_, pred}
 use lib.Dec.{T, leb, eqb}
 use lib.ListN.{length, getD, set}
 use Rattle.model.specs.declared.Model.{Model}
-use Rattle.model.specs.declared.Rule.{Rule}
 use Rattle.model.specs.declared.ThreadId.{ThreadId}
 use Rattle.model.specs.declared.ThreadId.the-variants.{A, B}
 use Rattle.model.specs.Lines.{States}

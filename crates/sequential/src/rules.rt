@@ -14,7 +14,7 @@ ghost use Rattle.model.specs.Fits.{Fits};
 ghost use Rattle.model.specs.Lines.{digits};
 ghost use Rattle.sequential.specs.Allowed.{at, closing};
 ghost use Rattle.sequential.specs.Listed.{passOf, beginOf, closeOf, holderOf, rulesAt, rulesOf, rulesWith};
-ghost use Rattle.sequential.specs.Parts.{Counted, limit, stateOf, Digits, Takes};
+ghost use Rattle.sequential.specs.Parts.{Counted, limit, stateOf, Digits};
 ghost use Rattle.sequential.specs.Text.{textOf};
 
 // Puts those at a counter, for all copies below G, or only counts their bytes, as all calls here do.

@@ -23,19 +23,29 @@ same-length : tie.Need-same-length
 same-length c = search needs
 
 returns-2 : tie.Need-returns-2
-returns-2 c = short _ _ (sym (c .before .before .before .before .before .if1 .left) ∙ c .before .before .before .before .before .before .refusal .ensures) (c .before .before .before .put-rules .ensures) (omega arith)
+returns-2 c =
+    let at-put-rules = c .before .before .before in
+    let at-if = at-put-rules .before .before in
+    let at-refusal = at-if .before in
+    short _ _ (sym (at-if .if1 .left) ∙ at-refusal .refusal .ensures) (at-put-rules .put-rules .ensures) (omega arith)
 
 put-rules-requires-2 : tie.Need-put-rules-requires-2
 put-rules-requires-2 c κs =
-    let none = sym (c .before .before .before .before .before .before .if1 .left) ∙ c .before .before .before .before .before .before .before .refusal .ensures in
-    (printable-fits _ none, omega (arith, c .before .before .before .before .put-rules .ensures .ends, c .before .if2 .left))
+    let at-put-rules = c .before .before .before .before in
+    let at-if = at-put-rules .before .before in
+    let at-refusal = at-if .before in
+    let none = sym (at-if .if1 .left) ∙ at-refusal .refusal .ensures in
+    (printable-fits _ none, omega (arith, at-put-rules .put-rules .ensures .ends, c .before .if2 .left))
 
 same-length-2 : tie.Need-same-length-2
 same-length-2 c = search needs
 
 returns-3 : tie.Need-returns-3
 returns-3 c =
-    whole _ _ (sym (c .before .before .before .before .before .before .before .before .before .if1 .left) ∙ c .before .before .before .before .before .before .before .before .before .before .refusal .ensures) (c .before .before .before .before .before .before .before .put-rules .ensures) (omega arith) (c .before .before .put-rules2 .ensures)
+    let at-put-rules = c .before .before .before .before .before .before .before in
+    let at-if = at-put-rules .before .before in
+    let at-refusal = at-if .before in
+    whole _ _ (sym (at-if .if1 .left) ∙ at-refusal .refusal .ensures) (at-put-rules .put-rules .ensures) (omega arith) (c .before .before .put-rules2 .ensures)
 
 pub print-spec : {M : Type 1} → statement M
 print-spec =

@@ -1,6 +1,5 @@
 -- `refusal` meets its contract: the model's fault comes first.
 use mathlib.Core.List.{[], _∷_}
-use mathlib.Core.Path.{sym, _∙_}
 use borrow.Author.Needs.{needs}
 use Rattle.model.proofs.Checks.{stops}
 use Rattle.model.specs.Results.{firstOf, refuse}

@@ -28,8 +28,9 @@ new-length-requires c κs = search needs
 
 add-result-3 : tie.Need-add-result-3
 add-result-3 c =
-    let top = few (omega (arith, c .before .before .before .pre .symbol)) (c .before .digits-of .ensures) in
-    let new : c .new-length .result ≤ 6 = rw (c .new-length .ensures) (short-new (c .before .before .before .args .r .new) (c .before .before .before .pre .right)) in
+    let start = c .before .before .before in
+    let top = few (omega (arith, start .pre .symbol)) (c .before .digits-of .ensures) in
+    let new : c .new-length .result ≤ 6 = rw (c .new-length .ensures) (short-new (start .args .r .new) (start .pre .right)) in
     search needs
 
 returns : tie.Need-returns

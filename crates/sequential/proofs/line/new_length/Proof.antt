@@ -1,5 +1,4 @@
 -- `new_length` meets its contract: the digits of each symbol, and a blank before it.
-use native.Mathlib.Omega.{arith}
 use borrow.Author.Needs.{needs}
 use Rattle.sequential.proofs.Widths.{few, length-none, length-one, length-two}
 use Rattle.sequential.proofs.line.new_length.Statement.{statement}
@@ -46,7 +45,9 @@ digits-of-requires-3 c κs = search needs
 
 add-result-3 : tie.Need-add-result-3
 add-result-3 c =
-    let low = rw (c .before .before .before .before .before .new2 .given .1) at (c .before .before .before .before .before .before .before .pre) in
+    let at-new = c .before .before .before .before .before in
+    let start = at-new .before .before in
+    let low = rw (at-new .new2 .given .1) at (start .pre) in
     let first = few (low .0) (c .before .before .digits-of2 .ensures) in
     let second = few (low .1) (c .digits-of3 .ensures) in
     search needs
@@ -58,7 +59,9 @@ returns-2 : tie.Need-returns-2
 returns-2 c = rw (c .before .before .before .new .given .1, length-one, c .digits-of .ensures)
 
 returns-3 : tie.Need-returns-3
-returns-3 c = rw (c .before .before .before .before .before .new2 .given .1, length-two, c .before .before .digits-of2 .ensures, c .digits-of3 .ensures)
+returns-3 c =
+    let at-new = c .before .before .before .before .before in
+    rw (at-new .new2 .given .1, length-two, c .before .before .digits-of2 .ensures, c .digits-of3 .ensures)
 
 pub new-length-spec : {M : Type 1} → statement M
 new-length-spec =

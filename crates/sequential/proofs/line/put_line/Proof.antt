@@ -1,5 +1,4 @@
 -- `put_line` meets its contract: the parts of a line, one behind the other.
-use native.Mathlib.Omega.{arith}
 use borrow.Author.Needs.{needs}
 use Rattle.sequential.proofs.Widths.{length-one, length-rule}
 use Rattle.sequential.specs.Text.{ruleText}
@@ -23,29 +22,33 @@ put-symbol-requires c κs =
 
 put-byte-requires : tie.Need-put-byte-requires
 put-byte-requires c κs =
-    let args = c .before .before .before .before .before .before .before .before .before .before .before .before .args in
-    let size = length-rule (args .k) (args .r) (c .before .before .before .before .before .before .before .before .before .before .before .before .pre .0) in
+    let start = c .before .before .before .before .before .before .before .before .before .before .before .before in
+    let args = start .args in
+    let size = length-rule (args .k) (args .r) (start .pre .0) in
     let top = length-one (args .r .top) in
     search needs
 
 put-digits-requires-2 : tie.Need-put-digits-requires-2
 put-digits-requires-2 c κs =
-    let args = c .before .before .before .before .before .before .before .before .before .before .before .before .before .before .before .before .args in
-    let size = length-rule (args .k) (args .r) (c .before .before .before .before .before .before .before .before .before .before .before .before .before .before .before .before .pre .0) in
+    let start = c .before .before .before .before .before .before .before .before .before .before .before .before .before .before .before .before in
+    let args = start .args in
+    let size = length-rule (args .k) (args .r) (start .pre .0) in
     let top = length-one (args .r .top) in
-    ((c .before .before .before .before .before .before .before .before .before .before .before .before .before .before .before .before .pre .0 .rounds, c .before .before .before .before .before .before .before .before .before .before .before .before .before .before .before .before .pre .0 .after), search needs)
+    ((start .pre .0 .rounds, start .pre .0 .after), search needs)
 
 put-new-requires : tie.Need-put-new-requires
 put-new-requires c κs =
-    let args = c .before .before .before .before .before .before .before .before .before .before .before .before .before .before .before .before .before .before .before .before .args in
-    let size = length-rule (args .k) (args .r) (c .before .before .before .before .before .before .before .before .before .before .before .before .before .before .before .before .before .before .before .before .pre .0) in
+    let start = c .before .before .before .before .before .before .before .before .before .before .before .before .before .before .before .before .before .before .before .before in
+    let args = start .args in
+    let size = length-rule (args .k) (args .r) (start .pre .0) in
     let top = length-one (args .r .top) in
     search needs
 
 put-byte-requires-2 : tie.Need-put-byte-requires-2
 put-byte-requires-2 c κs =
-    let args = c .before .before .before .before .before .before .before .before .before .before .before .before .before .before .before .before .before .before .before .before .before .before .before .before .args in
-    let size = length-rule (args .k) (args .r) (c .before .before .before .before .before .before .before .before .before .before .before .before .before .before .before .before .before .before .before .before .before .before .before .before .pre .0) in
+    let start = c .before .before .before .before .before .before .before .before .before .before .before .before .before .before .before .before .before .before .before .before .before .before .before .before in
+    let args = start .args in
+    let size = length-rule (args .k) (args .r) (start .pre .0) in
     let top = length-one (args .r .top) in
     search needs
 
@@ -55,8 +58,13 @@ same-length c = search needs
 returns : tie.Need-returns
 unfolding ruleText
 returns c =
-    c .before .before .before .before .before .before .before .before .before .before .before .before .before .before .before .before .before .before .before .before .before .before .put-digits .ensures .0 then c .before .before .before .before .before .before .before .before .before .before .before .before .before .before .before .before .before .before .put-symbol .ensures then (c .before .before .before .before .before .before .before .before .before .before .before .before .before .before .put-byte .ensures then c .before .before .before .before .before .before .before .before .before .before .put-digits2 .ensures .0)
-    then c .before .before .before .before .before .before .put-new .ensures then c .before .before .put-byte2 .ensures
+    let at-put-new = c .before .before .before .before .before .before in
+    let at-put-digits = at-put-new .before .before .before .before in
+    let at-put-byte = at-put-digits .before .before .before .before in
+    let at-put-symbol = at-put-byte .before .before .before .before in
+    let at-put-digits-2 = at-put-symbol .before .before .before .before in
+    at-put-digits-2 .put-digits .ensures .0 then at-put-symbol .put-symbol .ensures then (at-put-byte .put-byte .ensures then at-put-digits .put-digits2 .ensures .0)
+    then at-put-new .put-new .ensures then c .before .before .put-byte2 .ensures
 
 pub put-line-spec : {M : Type 1} → statement M
 put-line-spec =

@@ -27,7 +27,9 @@ put-symbol-requires-2 c κs =
 
 put-symbol-requires-3 : tie.Need-put-symbol-requires-3
 put-symbol-requires-3 c κs =
-    let room = rw (c .before .before .before .before .before .before .new2 .given .1, two-symbols) at (c .before .before .before .before .before .before .before .before .before .pre) in
+    let at-new = c .before .before .before .before .before .before in
+    let start = at-new .before .before .before in
+    let room = rw (at-new .new2 .given .1, two-symbols) at (start .pre) in
     omega (arith, simp length-append at room)
 
 returns : tie.Need-returns
@@ -44,7 +46,10 @@ same-length-2 : tie.Need-same-length-2
 same-length-2 c = search needs
 
 returns-3 : tie.Need-returns-3
-returns-3 c = rw (c .before .before .before .before .before .before .before .before .before .new2 .given .1, two-symbols) (c .before .before .before .before .before .before .put-symbol2 .ensures then c .before .before .put-symbol3 .ensures)
+returns-3 c =
+    let at-put-symbol = c .before .before .before .before .before .before in
+    let at-new = at-put-symbol .before .before .before in
+    rw (at-new .new2 .given .1, two-symbols) (at-put-symbol .put-symbol2 .ensures then c .before .before .put-symbol3 .ensures)
 
 pub put-new-spec : {M : Type 1} → statement M
 put-new-spec =

@@ -1,7 +1,6 @@
 -- `put_rule` meets its contract: a line is put, or its length is added.
-use native.Mathlib.Omega.{arith}
 use borrow.Author.Needs.{needs}
-use Rattle.sequential.proofs.Counting.{written, counted}
+use Rattle.sequential.proofs.Counting.{written}
 use Rattle.sequential.proofs.line.put_rule.Statement.{statement}
 use Rattle.sequential.proofs.line.put_rule.Tie as tie
 

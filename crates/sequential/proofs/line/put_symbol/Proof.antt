@@ -16,7 +16,9 @@ same-length : tie.Need-same-length
 same-length c = search needs
 
 returns : tie.Need-returns
-returns c = rw (one-symbol _) (c .before .before .before .before .before .before .put-byte .ensures then c .before .before .put-number .ensures)
+returns c =
+    let at-put-byte = c .before .before .before .before .before .before in
+    rw (one-symbol _) (at-put-byte .put-byte .ensures then c .before .before .put-number .ensures)
 
 pub put-symbol-spec : {M : Type 1} → statement M
 put-symbol-spec = tie.close (tie.spec put-byte-requires put-number-requires same-length returns)

@@ -19,16 +19,21 @@ add-t13 c = search needs
 
 put-rule-requires : tie.Need-put-rule-requires
 put-rule-requires c κs =
-    let d = c .before .before .before .before .pre .0 in
-    let b = c .before .before .before .before .args .b in
+    let start = c .before .before .before .before in
+    let d = start .pre .0 in
+    let b = start .args .b in
     let top = c .before .if2 .left in
-    (begin-shows d b (c .before .before .before .before .pre .1 .0) top, rw (begin-one d b (c .before .before .if1 .left) top) at (c .before .before .before .before .pre .1 .1))
+    (begin-shows d b (start .pre .1 .0) top, rw (begin-one d b (c .before .before .if1 .left) top) at (start .pre .1 .1))
 
 same-length : tie.Need-same-length
 same-length c = search needs
 
 returns-3 : tie.Need-returns-3
-returns-3 c = rw (begin-one (c .before .before .before .before .before .before .before .pre .0) _ (c .before .before .before .before .before .if1 .left) (c .before .before .before .before .if2 .left)) (c .before .before .put-rule .ensures)
+returns-3 c =
+    let at-if = c .before .before .before .before in
+    let at-if-2 = at-if .before in
+    let start = at-if-2 .before .before in
+    rw (begin-one (start .pre .0) _ (at-if-2 .if1 .left) (at-if .if2 .left)) (c .before .before .put-rule .ensures)
 
 pub put-begin-spec : {M : Type 1} → statement M
 put-begin-spec =

@@ -25,7 +25,10 @@ same-length : tie.Need-same-length
 same-length c = search needs
 
 returns-2 : tie.Need-returns-2
-returns-2 c = rw (close-one (c .before .before .before .before .before .before .before .pre .0) (omega arith) (c .before .before .before .before .closing-of .ensures)) (c .before .before .put-rule .ensures)
+returns-2 c =
+    let at-closing-of = c .before .before .before .before in
+    let start = at-closing-of .before .before .before in
+    rw (close-one (start .pre .0) (omega arith) (at-closing-of .closing-of .ensures)) (c .before .before .put-rule .ensures)
 
 pub put-close-spec : {M : Type 1} → statement M
 put-close-spec =

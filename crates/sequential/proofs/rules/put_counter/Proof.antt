@@ -58,10 +58,13 @@ loop-less c = search needs
 
 loop-again : tie.Need-loop-again Inv-loop μ-loop
 loop-again c =
-    let loop = c .before .before .before .before .before .before .loop in
-    let args = c .before .before .before .before .before .before .before .before .before .before .before .args in
+    let at-state-of = c .before .before .before .before in
+    let turn = at-state-of .before .before in
+    let start = turn .before .before .before .before .before in
+    let loop = turn .loop in
+    let args = start .args in
     let f : ℕ → List StackRule = λ i. rulesOf (args .m) (allowed.at (args .counter) (digits (args .m .g) (args .m .k) i)) in
-    (search needs, search needs, loop-next f (loop .v) (loop .inv .2) (rw (c .before .before .before .before .state-of .ensures .0) at (c .before .before .put-state .ensures)))
+    (search needs, search needs, loop-next f (loop .v) (loop .inv .2) (rw (at-state-of .state-of .ensures .0) at (c .before .before .put-state .ensures)))
 
 same-length : tie.Need-same-length Inv-loop μ-loop
 same-length c = search needs
@@ -69,8 +72,9 @@ same-length c = search needs
 returns : tie.Need-returns Inv-loop μ-loop
 unfolding rulesWith
 returns c =
+    let start = c .before .before .before .before .before .before in
     let loop = c .before .loop in
-    let all : loop .v ≡ c .before .before .before .before .before .before .args .m .g ^ c .before .before .before .before .before .before .args .m .k = omega (arith, loop .inv .0, c .before .before .power .ensures .0) in
+    let all : loop .v ≡ start .args .m .g ^ start .args .m .k = omega (arith, loop .inv .0, c .before .before .power .ensures .0) in
     rw all at (loop .inv .2)
 
 pub put-counter-spec : {M : Type 1} → statement M

@@ -49,11 +49,15 @@ put-pass-requires c κs =
 
 put-begin-requires : tie.Need-put-begin-requires
 put-begin-requires c κs =
-    let pre = c .before .before .before .before .before .before .before .before .before .before .before .before .before .before .pre in
-    let args = c .before .before .before .before .before .before .before .before .before .before .before .before .before .before .args in
+    let at-put-pass = c .before .before .before .before in
+    let at-put-taken = at-put-pass .before .before .before .before in
+    let at-if = at-put-taken .before .before in
+    let start = at-if .before .before .before .before in
+    let pre = start .pre in
+    let args = start .args in
     let s = stateOf (args .m .k) (args .t4) in
-    let size = early-length (args .m) s (args .top) (c .before .before .before .before .before .before .before .before .before .before .if1 .left) in
-    let behind = c .before .before .before .before .before .before .before .before .put-taken .ensures next c .before .before .before .before .put-pass .ensures in
+    let size = early-length (args .m) s (args .top) (at-if .if1 .left) in
+    let behind = at-put-taken .put-taken .ensures next at-put-pass .put-pass .ensures in
     (pre .1 .0 .0, (pre .0 .b .first, room-next _ behind (simp length-append (omega (arith, size, pre .1 .1)))))
 
 same-length-2 : tie.Need-same-length-2
@@ -61,10 +65,14 @@ same-length-2 c = search needs
 
 returns-2 : tie.Need-returns-2
 returns-2 c =
-    let args = c .before .before .before .before .before .before .before .before .before .before .before .before .before .before .before .before .before .args in
+    let at-put-pass = c .before .before .before .before .before .before .before in
+    let at-put-taken = at-put-pass .before .before .before .before in
+    let at-if = at-put-taken .before .before in
+    let start = at-if .before .before .before .before in
+    let args = start .args in
     let s = stateOf (args .m .k) (args .t4) in
-    rw (early-text (args .m) s (args .top) (c .before .before .before .before .before .before .before .before .before .before .before .before .before .if1 .left))
-    (c .before .before .before .before .before .before .before .before .before .before .before .put-taken .ensures next c .before .before .before .before .before .before .before .put-pass .ensures next c .before .before .put-begin .ensures)
+    rw (early-text (args .m) s (args .top) (at-if .if1 .left))
+    (at-put-taken .put-taken .ensures next at-put-pass .put-pass .ensures next c .before .before .put-begin .ensures)
 
 pub put-top-spec : {M : Type 1} → statement M
 put-top-spec =

@@ -22,7 +22,9 @@ symbol-of-requires : tie.Need-symbol-of-requires
 symbol-of-requires c κs = search needs
 
 returns-2 : tie.Need-returns-2
-returns-2 c = rw (act-other (c .before .before .before .before .before .args .r) (c .before .before .before .before .before .args .id) (c .before .before .before .before .before .pre .1 .0) (λ e. c .if2 .taken (c .before .symbol-of .ensures ∙ e))) (nothing _ _ _)
+returns-2 c =
+    let start = c .before .before .before .before .before in
+    rw (act-other (start .args .r) (start .args .id) (start .pre .1 .0) (λ e. c .if2 .taken (c .before .symbol-of .ensures ∙ e))) (nothing _ _ _)
 
 array-write-to : tie.Need-array-write-to
 array-write-to c = search needs
@@ -32,20 +34,28 @@ right-of-requires c κs = search needs
 
 put-rule-requires : tie.Need-put-rule-requires
 put-rule-requires c κs =
-    let r = c .before .before .before .before .before .before .before .args .r in
-    let t = c .before .before .before .before .before .before .before .pre .1 .0 in
-    let top = sym (c .before .before .before .symbol-of .ensures) ∙ c .before .before .if2 .left in
+    let at-symbol-of = c .before .before .before in
+    let at-if = at-symbol-of .before in
+    let start = at-if .before .before .before in
+    let r = start .args .r in
+    let t = start .pre .1 .0 in
+    let top = sym (at-symbol-of .symbol-of .ensures) ∙ c .before .before .if2 .left in
     let same = c .before .right-of .ensures in
-    (rw same (act-shows r _ t (c .before .before .before .before .before .before .before .pre .0)), rw same (rw (act-one r _ t (c .before .before .before .before .if1 .left) top) at (c .before .before .before .before .before .before .before .pre .1 .1)))
+    (rw same (act-shows r _ t (start .pre .0)), rw same (rw (act-one r _ t (at-if .if1 .left) top) at (start .pre .1 .1)))
 
 same-length : tie.Need-same-length
 same-length c = search needs
 
 returns-3 : tie.Need-returns-3
 returns-3 c =
-    let r = c .before .before .before .before .before .before .before .before .before .before .args .r in
-    let top = sym (c .before .before .before .before .before .before .symbol-of .ensures) ∙ c .before .before .before .before .before .if2 .left in
-    rw (act-one r _ (c .before .before .before .before .before .before .before .before .before .before .pre .1 .0) (c .before .before .before .before .before .before .before .if1 .left) top, ← c .before .before .before .before .right-of .ensures) (c .before .before .put-rule .ensures)
+    let at-right-of = c .before .before .before .before in
+    let at-if = at-right-of .before in
+    let at-symbol-of = at-if .before in
+    let at-if-2 = at-symbol-of .before in
+    let start = at-if-2 .before .before .before in
+    let r = start .args .r in
+    let top = sym (at-symbol-of .symbol-of .ensures) ∙ at-if .if2 .left in
+    rw (act-one r _ (start .pre .1 .0) (at-if-2 .if1 .left) top, ← at-right-of .right-of .ensures) (c .before .before .put-rule .ensures)
 
 pub put-act-spec : {M : Type 1} → statement M
 put-act-spec =

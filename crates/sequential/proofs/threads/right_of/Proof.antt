@@ -20,7 +20,9 @@ symbol-of-requires-2 : tie.Need-symbol-of-requires-2
 symbol-of-requires-2 c κs = let low = rw (c .before .x2 .given .1) at (c .before .before .before .pre) in omega (arith, low .0)
 
 symbol-of-requires-3 : tie.Need-symbol-of-requires-3
-symbol-of-requires-3 c κs = let low = rw (c .before .before .x2 .given .1) at (c .before .before .before .before .pre) in omega (arith, low .1)
+symbol-of-requires-3 c κs =
+    let start = c .before .before .before .before in
+    let low = rw (c .before .before .x2 .given .1) at (start .pre) in omega (arith, low .1)
 
 returns : tie.Need-returns
 returns c = search needs
