@@ -17,6 +17,7 @@ use Rattle.model.specs.Lines.{digits}
 use Rattle.model.specs.Rules.{ruleAt}
 use Rattle.model.specs.Walk.{threadOf}
 use Rattle.text.specs.Text.{decimal}
+use Rattle.model.proofs.Inside.{fits-of}
 use Rattle.sequential.specs.Allowed.{symbolOf, closing, at, copy, Allowed, Kind, acts, passes, closes, begins}
 use Rattle.sequential.specs.Answer.{textFor}
 use Rattle.sequential.specs.Listed.{Member, here, there, below, onlyIf, takerOf, actOf, actsOf, passOf, beginOf, closeOf}
@@ -26,7 +27,7 @@ use Rattle.sequential.specs.System.{State, StackRule}
 use Rattle.sequential.specs.Text.{stateText, symbolsText, ruleText, textOf}
 use Rattle.sequential.proofs.Listing.{listed-allowed}
 use Rattle.sequential.proofs.Making.{right-low, right-symbols}
-use Rattle.sequential.proofs.OneTop.{fits-of, top-below}
+use Rattle.sequential.proofs.OneTop.{top-below}
 use Rattle.sequential.proofs.Widths.{few, length-one, length-two, short-new}
 
 -- The bytes of a state.

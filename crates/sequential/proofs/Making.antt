@@ -22,6 +22,7 @@ use Rattle.sequential.specs.Listed.{actOf, passOf, beginOf, closeOf, hol
 use Rattle.sequential.specs.Parts.{stateOf, ruleIn, rightOf, Quad, Digits, Shows, Takes}
 use Rattle.sequential.specs.Text.{ruleText, textOf}
 use Rattle.sequential.proofs.Counting.{text-one}
+use Rattle.sequential.proofs.OneTop.{symbols-below}
 
 -- Four digits stay four with another one at a place.
 low-set : (l : List ℕ) (i x : ℕ) → x < 10 → ((j : ℕ) → getD l j 0 < 10) → (j : ℕ) → getD (set l i x) j 0 < 10
@@ -147,15 +148,14 @@ module _ {k : ℕ} {digits : List ℕ} (d : Digits k digits) where
     right = (omega arith, omega arith);
   }
 
--- A thread's symbols in the one stack, and so its new symbols, are at most 31.
-symbols-low : (id : ThreadId) {s : ℕ} → s ≤ 15 → symbolOf id s < 36
-symbols-low A h = omega arith
-symbols-low B h = omega arith
-
+-- New symbols in the one stack are at most 31.
 pub right-low : (id : ThreadId) (x : Right) → RightFits x → RightBelow 36 (rightOf id x)
 right-low id Remove h = tt
-right-low id (Swap a) h = symbols-low id (omega arith)
-right-low id (Push a b) h = (symbols-low id (omega (arith, h .0)), symbols-low id (omega (arith, h .1)))
+right-low id (Swap a) h = let low = symbols-below id {s = a .0} (omega arith) in omega arith
+right-low id (Push a b) h =
+    let first = symbols-below id {s = a .0} (omega (arith, h .0)) in
+    let second = symbols-below id {s = b .0} (omega (arith, h .1)) in
+    (omega arith, omega arith)
 
 -- New symbols one by one.
 pub right-symbols : (id : ThreadId) (x : Right) → map (symbolOf id) (put x []) ≡ put (rightOf id x) []

@@ -22,6 +22,7 @@ use Rattle.model.specs.Order as rule
 use Rattle.model.specs.Order.{newOf, precedes}
 use Rattle.model.specs.Rules.{ruleAt, put}
 use Rattle.model.specs.Walk.{threadOf}
+use Rattle.model.proofs.Inside.{fits-of}
 use Rattle.sequential.specs.Allowed.{symbolOf, closing, at, withCopy, StateOf}
 use Rattle.sequential.specs.Listed.{Member, takerOf, actOf, actsOf, passOf, beginOf, closeOf, takenAt}
 use Rattle.sequential.specs.Listed.{rulesAt, rulesOf, numberOf, Ascends}
@@ -31,7 +32,7 @@ use Rattle.sequential.proofs.Members.{actRule, passRule, act-alone, pas
 use Rattle.sequential.proofs.Members.{member-act, member-acts, member-pass, member-begin}
 use Rattle.sequential.proofs.Numbers.{widen, set-states, lower-in, counter-lower, copies-lower}
 use Rattle.sequential.proofs.Orders.{first-decides, rest-decides, map-keeps}
-use Rattle.sequential.proofs.OneTop.{fits-of, symbols-below, at-one}
+use Rattle.sequential.proofs.OneTop.{symbols-below, at-one}
 
 module _ (r q : StackRule) where
   -- A rule comes before another by its state ..

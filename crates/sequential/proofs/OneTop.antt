@@ -9,10 +9,11 @@ use lib.Dec.{T}
 use borrow.Author.Tests.{lt-ltb, le-ltb}
 use Rattle.model.proofs.Tests.{passed, failed}
 use Rattle.costs.proofs.Views.{apart}
+use Rattle.model.proofs.Inside.{fits-of}
 use Rattle.model.specs.declared.Model.{Model}
 use Rattle.model.specs.declared.ThreadId.{ThreadId}
 use Rattle.model.specs.declared.ThreadId.the-variants.{A, B}
-use Rattle.model.specs.Fits.{Fits, ThreadFits}
+use Rattle.model.specs.Fits.{Fits}
 use Rattle.model.specs.Rules.{ruleAt}
 use Rattle.model.specs.Walk.{threadOf}
 use Rattle.sequential.specs.Allowed.{symbolOf, closing, owns, StateOf, Acts, Passes, Closes, Begins}
@@ -21,11 +22,6 @@ use Rattle.sequential.specs.Listed.{Member, takerOf, passOf, beginOf, ho
 use Rattle.sequential.specs.System.{State, StackRule}
 use Rattle.sequential.proofs.Members.{member-acts, member-pass, member-close, member-begin, Early, member-at}
 use Rattle.sequential.proofs.Tops.{TopOf, symbol, mark, owned, low, only}
-
--- Both threads of a model that fits do.
-pub fits-of : {m : Model} → Fits m → (id : ThreadId) → ThreadFits (m .g) (threadOf id m)
-fits-of f A = f .a
-fits-of f B = f .b
 
 -- A thread's symbols in the one stack are at most 31.
 pub symbols-below : (id : ThreadId) {s : ℕ} → s ≤ 15 → symbolOf id s ≤ 31

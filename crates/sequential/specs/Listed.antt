@@ -44,6 +44,10 @@ actOf r id s top =
 unfoldable pub actsOf : Thread → ThreadId → State → ℕ → List StackRule
 actsOf t id s top = below (λ r. actOf (ruleAt t r) id s top) (t .count)
 
+-- The same of a thread of a model, by its name.
+abbrev pub takenAt : Model → ThreadId → State → ℕ → List StackRule
+takenAt m id s top = actsOf (threadOf id m) id s top
+
 -- The rule that passes the turn on.
 unfoldable pub passOf : State → ℕ → List StackRule
 passOf s top =
@@ -63,10 +67,6 @@ holderOf top = cond (owns A top) A B
 unfoldable pub closeOf : State → ℕ → List StackRule
 closeOf s top =
     onlyIf (leb top 33) (record { state = s; top = top; next = at 1 (s .copies); new = closing (holderOf top) ∷ top ∷ [] })
-
--- The same of a thread of a model.
-abbrev pub takenAt : Model → ThreadId → State → ℕ → List StackRule
-takenAt m id s top = actsOf (threadOf id m) id s top
 
 -- The rules at a state and a top: up to counter K those of the threads, the pass and B's begin, and at K+1 the close.
 unfoldable pub rulesAt : Model → State → ℕ → List StackRule

@@ -8,7 +8,7 @@ use vectors::Tally;
 const KEPT: u8 = 0xEE;
 
 // Room for the longest text that is compared, and more.
-const ROOM: usize = 300000;
+const ROOM: usize = 240000;
 
 // Model One with its rule held.
 const HELD_ONE: [u8; 17] = *b"\x4B\x02\x01\x81\x04\x01\x00\x00\x00\x00\x00\x00\x00\x01\x01\x00\x01";
