@@ -20,7 +20,7 @@ abbrev pub All : ℕ → List ℕ → Batch → List ℕ → List ℕ → Type 0
 All places tray b old new = Batched tray places b.answer (take b.count b.outcomes) old new
 
 -- What a call with a list of so many places promises of its outcomes and of the store.
-abbrev Told : List ℕ → ℕ → Batch → List ℕ → List ℕ → Type 0
+abbrev pub Told : List ℕ → ℕ → Batch → List ℕ → List ℕ → Type 0
 Told tray places b old new = Few places b × All places tray b old new
 
 -- A refusal has no outcome, and the store is as it was.

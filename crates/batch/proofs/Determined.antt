@@ -5,6 +5,7 @@ use mathlib.Core.Path.{◌≡◌, refl, sym, ap, ◌∙◌}
 use Prim.Native.Nat.{ℕ, ◌*◌, ◌/◌}
 use native.Mathlib.Omega.{arith}
 use contract.Lifetimes.{Lfts}
+use denote.Bor.{Bor}
 use denote.Ref.{MutBor, at_last}
 use lib.ListN.{length}
 use lib.Seq.{sets}
@@ -91,14 +92,14 @@ bytes_same {tray} {r} {s} {list} {old = old} {new} {new'} p q =
     let same = batched_same tray (length list / 6) r s p.outcomes q.outcomes old new new' p.batched q.batched in
     (same.0, p.filled ∙ (ap (λ os. sets list 0 (outcome_bytes os)) same.1 ∙ sym q.filled), same.2)
 
-pub to_bytes_determined : (κs : Lfts 3) (list tray store : MutBor (List ℕ)) (r s : Answer) (l l' w w' : List ℕ)
+pub to_bytes_determined : (κs : Lfts 3) (list : MutBor (List ℕ)) (tray : Bor (List ℕ)) (store : MutBor (List ℕ)) (r s : Answer) (l l' w w' : List ℕ)
     → to-bytes.Post κs (list, (tray, (store, tt))) r (at_last list l, (tray, (at_last store w, tt)))
     → to-bytes.Post κs (list, (tray, (store, tt))) s (at_last list l', (tray, (at_last store w', tt)))
     → (r ≡ s) × (l ≡ l') × (w ≡ w')
 to_bytes_determined κs list tray store r s l l' w w' p q = bytes_same p q
 
 -- The same with a list of structs: the answer, every place of the list and every byte of the store.
-pub to_list_determined : (list : MutBor (List Outcome)) (tray store : MutBor (List ℕ)) (r s : Answer) (l l' : List Outcome) (w w' : List ℕ)
+pub to_list_determined : (list : MutBor (List Outcome)) (tray : Bor (List ℕ)) (store : MutBor (List ℕ)) (r s : Answer) (l l' : List Outcome) (w w' : List ℕ)
     → Listed tray.now r list.now l store.now w → Listed tray.now s list.now l' store.now w' → (r ≡ s) × (l ≡ l') × (w ≡ w')
 to_list_determined list tray store r s l l' w w' p q =
     let same = batched_same tray.now (length list.now) r s p.outcomes q.outcomes store.now w w' p.batched q.batched in

@@ -6,7 +6,7 @@ use mathlib.Core.Bool.{Bool, true, false, not}
 use mathlib.Core.Option.{Option, none, some as just}
 use mathlib.Core.List.{List, [], ◌∷◌, ◌++◌}
 use seplogic.Ra.Ura.{Ura}
-use seplogic.Ra.TreeShare.{full_share}
+use base.Fraction.{full_share}
 use lib.Dec.{T, eqb}
 use mir.Syntax.{Ty, Local, local, Body, Opd as Operand, place, copy, skip, seq, cond, exit}
 use mir.Val.{Val, vbool}
@@ -71,7 +71,7 @@ module _ {M : Type 1} {𝓤 : Ura M} {𝓛 : Logic 𝓤} {K : Type 0} where
   pub allocs_all : K → {Γ : List (Item 𝓤)} (ls : List Local) {Kt : List (Ty × ℕ) → Goal 𝓤 H}
       → ((l : ℕ → ℕ) → Seq K 𝓛 (locals 𝓤 (placed ls l) empty ++ Γ) (Kt (placed ls l))) → Seq K 𝓛 Γ (allocs ls Kt)
   allocs_all t [] k = alloc0 t $ k (λ i. i)
-  allocs_all t (local τ h ∷ ls) k = alloc1 t (λ b. allocs_all t ls (λ l. record {
+  allocs_all t {Γ = Γ} (local τ h ∷ ls) k = alloc1 t (λ b. allocs_all t {Γ = ‵ (froom τ b 0) ∷ ‵ (fdies τ b) ∷ Γ} ls (λ l. record {
     prf = via 𝓤 _ (to_front 𝓛 (‵ (froom τ b 0)) (‵ (fdies τ b)) (locals 𝓤 (placed ls l) empty) _) (k (before b l)).prf;
   }))
 

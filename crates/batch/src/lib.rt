@@ -1,4 +1,6 @@
 // Trays judged together: each record as if it stood alone, with one schedule store for all.
+#![tactic(auto)]
+
 ghost use Rattle.batch.specs.Batch.{Listed};
 ghost use Rattle.batch.specs.Bytes.{ListedBytes};
 
@@ -13,7 +15,7 @@ use together::{judge_all, outcome_at};
 // What a record comes to: its verdict (0 Clear, 1 Long, 2 Found), the steps of a shortest run where it is Found, whether its schedule was
 // written, and the place of that schedule's first step in the store.
 #[repr(C)]
-#[derive(Drop)]
+#[derive(Clone, Copy)]
 pub struct Outcome {
     pub verdict: u8,
     pub steps: u16,
@@ -22,7 +24,7 @@ pub struct Outcome {
 }
 
 // How many records were judged, or a refusal's number.
-#[derive(Drop)]
+#[derive(Clone, Copy)]
 pub enum Answer {
     Judged(usize),
     Refused(u8),

@@ -12,7 +12,7 @@ use crate::{Answer, Outcome};
 use model::MOST_BYTES;
 
 // The answer, and the outcomes of so many records in the first places.
-#[derive(Drop)]
+#[derive(Clone, Copy)]
 pub struct Batch {
     pub answer: Answer,
     pub count: usize,

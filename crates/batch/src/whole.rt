@@ -4,7 +4,7 @@ ghost use Rattle.batch.specs.Counts.{Counts};
 use tray::FirstRecord;
 
 // How many records a tray has, or the number by which the first bad one is refused.
-#[derive(Drop)]
+#[derive(Clone, Copy)]
 pub enum Counted {
     Records(usize),
     Refused(u8),

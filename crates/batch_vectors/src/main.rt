@@ -1,6 +1,10 @@
 // Judges trays made by hand and files of random ones, and compares: the answer, the outcomes, the schedules, and what the list and the
 // store keep.
+#![tactic(auto)]
+
 use batch::Answer;
+use std::io;
+use std::rt::Files;
 use vectors::{Case, Tally};
 
 // What every byte of the list and of the store holds before a call.
@@ -18,7 +22,7 @@ const STORE: usize = 8200;
 const STEPS: [u8; 12] = [0, 0, 0, 0, 0, 1, 1, 0, 2, 2, 0, 0];
 
 // An answer's number, 0 where the tray was judged, and how many records were.
-#[derive(Drop)]
+#[derive(Clone, Copy)]
 struct Made {
     answer: u8,
     count: usize,
@@ -252,16 +256,16 @@ fn corpus(s: &[u8]) -> Tally {
 }
 
 // The cases of a file, which the store has room for.
-fn file(name: &[u8], store: &mut [u8]) {
-    let n = vectors::load(name, store);
-    corpus(&store[0..n]).report(name);
+fn file(rt: &(impl Files + Print + Eprint), name: &[u8], store: &mut [u8]) -> io::Result<()> {
+    let n = vectors::load(rt, name, store);
+    corpus(&store[0..n]).report(rt, name)
 }
 
-fn main() {
-    in_a_row().report(b"in a row");
-    at_start().report(b"found at the start");
-    sizes().report(b"sizes");
-    let mut store = [0u8; 610000];
-    file(b"batches-1.bin", &mut store);
-    file(b"batches-2.bin", &mut store);
+fn main(rt: HostRuntime) -> io::Result<()> {
+    in_a_row().report(&rt, b"in a row")?;
+    at_start().report(&rt, b"found at the start")?;
+    sizes().report(&rt, b"sizes")?;
+    let mut store = vec![in rt.alloc(); 0u8; 610000]?;
+    file(&rt, b"batches-1.bin", &mut store)?;
+    file(&rt, b"batches-2.bin", &mut store)
 }

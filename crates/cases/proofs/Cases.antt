@@ -25,10 +25,10 @@ use Rattle.model.proofs.Ranges.{valid_fits}
 use Rattle.model.proofs.Table.{every, at}
 use Rattle.model.proofs.Tests.{passed, both, equal, tests}
 use Rattle.model.proofs.Stores.{length_bytes}
-use Rattle.log.specs.declared.Followed.{Followed}
-use Rattle.log.specs.declared.Followed.TheVariants as following
-use Rattle.log.specs.Log.{earliest, byte_from, bytes_from, followed_of}
-use Rattle.log.proofs.Fewest.{fewest}
+use Rattle.logs.specs.declared.Followed.{Followed}
+use Rattle.logs.specs.declared.Followed.TheVariants as following
+use Rattle.logs.specs.Log.{earliest, byte_from, bytes_from, followed_of}
+use Rattle.logs.proofs.Fewest.{fewest}
 use Rattle.record.specs.Reader.{Read, read_of, parse_front, parse_head, parse_byte, parse_ranged, parse_field, parse_right, parse_rule, parse_rule_list, parse_rules}
 use Rattle.record.specs.Reader.{parse_target, parse_top, parse_marks, parse_extras, parse_second}
 use Rattle.replay.specs.declared.Replayed.{Replayed}

@@ -9,9 +9,9 @@ use Rattle.model.specs.Schedules.{bytes_of, Shown}
 use Rattle.model.specs.Tables.{bytes_for, LineTable}
 use Rattle.model.specs.Valid.{Valid}
 use Rattle.model.specs.Verdict.{clear, found, Judged}
-use Rattle.log.specs.declared.Followed.TheVariants as following
-use Rattle.log.specs.Log.{followed_of}
-use Rattle.log.specs.Placings.{Fewest}
+use Rattle.logs.specs.declared.Followed.TheVariants as following
+use Rattle.logs.specs.Log.{followed_of}
+use Rattle.logs.specs.Placings.{Fewest}
 use Rattle.record.specs.Reader.{read_of}
 use Rattle.replay.specs.declared.Replayed.TheVariants as replayed
 use Rattle.replay.specs.Replay.{replay_of}

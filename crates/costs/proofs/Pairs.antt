@@ -31,7 +31,6 @@ use Rattle.summary.proofs.Ranging.{Sym, ranged}
 use Rattle.summary.proofs.Relaxing.{better}
 use Rattle.summary.proofs.Tables.{Bounded, bounded, exact_closed}
 use Rattle.costs.specs.Cost.{control, through, over_states, over_turns, pair_cost}
-use Rattle.costs.specs.Ends.{turn_of}
 
 -- A count that is reached and at most m is so after a candidate more, and after one that is.
 lower : (x y old m : ℕ) → (old ≤ cap) × (old ≤ m) → (best_of 0 x y old ≤ cap) × (best_of 0 x y old ≤ m)

@@ -151,8 +151,8 @@ module _ {m : Model} (ask : ThreadId → Top) where
   parted : {i j : ThreadId} {t g : ℕ} {held : Bool} {σ τ : Stacks} {line : List ℕ} {ss : List Step}
       → Turns m t held g σ line ss τ → Under ask τ → Pair i j → owner_of t ≡ i → Both m ask i j t held g σ line ss
   parted {i} {j} stop u p e = record { mine = []; theirs = []; own = stop (u i); others = stop (u j); merged = none }
-  parted {t = t} (end r) u p e =
-      let v = over (parted r u (flip p) (next_turn_lem p t e)) in
+  parted {i = i} {j = j} {t = t} (end r) u p e =
+      let v = over (parted {i = j} r u (flip p) (next_turn_lem p t e)) in
       record {
         mine = v.mine;
         theirs = v.theirs;

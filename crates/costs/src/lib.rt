@@ -1,4 +1,6 @@
 // The costs of a thread along full lines: the least number of its steps along each, capped.
+#![tactic(auto)]
+
 ghost use Rattle.std.specs.Prelude.{◌≡◌, ◌≤◌, ◌<◌, length};
 ghost use Rattle.model.specs.Fits.{Fits, TopFits, ThreadFits};
 ghost use Rattle.model.specs.declared.Top.{Top};
@@ -30,7 +32,7 @@ pub const NAMED: usize = 8;
 
 // A thread's side of the full lines: the states in a line are below g, and the table has so many controls; the run starts in a state,
 // and the thread with one symbol.
-#[derive(Drop)]
+#[derive(Clone, Copy)]
 pub struct Side {
     pub g: usize,
     pub controls: usize,

@@ -1,5 +1,7 @@
 // How deep the stacks get in the run of a legal schedule. What a rule puts in the top's place says how much its stack grows, so heights
 // tell it, and no stack is walked again.
+#![tactic(auto)]
+
 ghost use Rattle.std.specs.Prelude.{cond, ◌≡◌, ◌+◌, ◌-◌, ◌%◌, ◌≤◌, ◌<◌, max, eqb};
 ghost use Rattle.model.specs.Depths.{depths_of};
 ghost use Rattle.model.specs.Schedules.{steps_of};

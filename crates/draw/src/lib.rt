@@ -1,5 +1,7 @@
 // The line table drawn from both threads' costs: a bit stands exactly if both can follow the full line of its place. And the
 // refusals due before that.
+#![tactic(auto)]
+
 ghost use Rattle.std.specs.Prelude.{◌≡◌, ◌*◌, ◌^◌, ◌<◌, ◌≤◌, length};
 ghost use Rattle.model.specs.Fits.{Fits};
 ghost use Rattle.model.specs.declared.Top.TheVariants.{Any};

@@ -4,6 +4,7 @@ use mathlib.Core.List.{List}
 use mathlib.Core.Path.{◌≡◌, refl, sym, ap, subst, ◌∙◌}
 use Prim.Native.Nat.{ℕ}
 use contract.Lifetimes.{Lfts}
+use denote.Bor.{Bor}
 use denote.Ref.{MutBor, at_last}
 use lib.ListN.{length}
 use Rattle.model.specs.declared.Model.{Model}
@@ -53,31 +54,31 @@ by_reading {C} bytes f g = go (read_of bytes) refl
 -- number, and every byte of a store.
 
 -- Reading.
-pub read_determined : (κs : Lfts 1) (bytes : MutBor (List ℕ)) (r s : ℕ)
+pub read_determined : (κs : Lfts 1) (bytes : Bor (List ℕ)) (r s : ℕ)
     → read.Post κs (bytes, tt) r (bytes, tt) → read.Post κs (bytes, tt) s (bytes, tt) → r ≡ s
 read_determined κs bytes r s p q =
     by_reading bytes.now (λ n e. said (rw e at p) (rw e at q)) (λ m rest e. said (rw e at p) (rw e at q))
 
 -- The first record of a tray.
-pub first_determined : (κs : Lfts 1) (tray : MutBor (List ℕ)) (r s : ℕ)
+pub first_determined : (κs : Lfts 1) (tray : Bor (List ℕ)) (r s : ℕ)
     → first.Post κs (tray, tt) r (tray, tt) → first.Post κs (tray, tt) s (tray, tt) → r ≡ s
 first_determined κs tray r s p q = said p.0 q.0
 
 -- Replaying a schedule.
-pub replay_determined : (κs : Lfts 2) (bytes schedule : MutBor (List ℕ)) (r s : ℕ)
+pub replay_determined : (κs : Lfts 2) (bytes schedule : Bor (List ℕ)) (r s : ℕ)
     → replay.Post κs (bytes, (schedule, tt)) r (bytes, (schedule, tt)) → replay.Post κs (bytes, (schedule, tt)) s (bytes, (schedule, tt))
     → r ≡ s
 replay_determined κs bytes schedule r s p q =
     by_reading bytes.now (λ n e. said (rw e at p) (rw e at q)) (λ m rest e. said (rw e at p) (rw e at q))
 
 -- Following a log.
-pub follow_determined : (κs : Lfts 2) (bytes log : MutBor (List ℕ)) (r s : ℕ)
+pub follow_determined : (κs : Lfts 2) (bytes log : Bor (List ℕ)) (r s : ℕ)
     → follow.Post κs (bytes, (log, tt)) r (bytes, (log, tt)) → follow.Post κs (bytes, (log, tt)) s (bytes, (log, tt)) → r ≡ s
 follow_determined κs bytes log r s p q =
     by_reading bytes.now (λ n e. said (rw e at p) (rw e at q)) (λ m rest e. said (rw e at p) (rw e at q))
 
 -- Writing a record.
-pub write_determined : (κs : Lfts 2) (bytes store : MutBor (List ℕ)) (r s : ℕ) (new new' : List ℕ)
+pub write_determined : (κs : Lfts 2) (bytes : Bor (List ℕ)) (store : MutBor (List ℕ)) (r s : ℕ) (new new' : List ℕ)
     → write.Post κs (bytes, (store, tt)) r (bytes, (at_last store new, tt))
     → write.Post κs (bytes, (store, tt)) s (bytes, (at_last store new', tt))
     → (r ≡ s) × (new ≡ new')
@@ -85,7 +86,7 @@ write_determined κs bytes store r s new new' p q =
     by_reading bytes.now (λ n e. both (rw e at p) (rw e at q)) (λ m rest e. both (rw e at p) (rw e at q))
 
 -- The page of a schedule.
-pub page_determined : (κs : Lfts 3) (bytes schedule store : MutBor (List ℕ)) (r s : ℕ) (new new' : List ℕ)
+pub page_determined : (κs : Lfts 3) (bytes schedule : Bor (List ℕ)) (store : MutBor (List ℕ)) (r s : ℕ) (new new' : List ℕ)
     → page.Post κs (bytes, (schedule, (store, tt))) r (bytes, (schedule, (at_last store new, tt)))
     → page.Post κs (bytes, (schedule, (store, tt))) s (bytes, (schedule, (at_last store new', tt)))
     → (r ≡ s) × (new ≡ new')
@@ -93,7 +94,7 @@ page_determined κs bytes schedule store r s new new' p q =
     by_reading bytes.now (λ n e. both (rw e at p) (rw e at q)) (λ m rest e. both (rw e at p) (rw e at q))
 
 -- The rules of the sequential system.
-pub sequentialize_determined : (κs : Lfts 2) (bytes store : MutBor (List ℕ)) (r s : ℕ) (new new' : List ℕ)
+pub sequentialize_determined : (κs : Lfts 2) (bytes : Bor (List ℕ)) (store : MutBor (List ℕ)) (r s : ℕ) (new new' : List ℕ)
     → sequentialize.Post κs (bytes, (store, tt)) r (bytes, (at_last store new, tt))
     → sequentialize.Post κs (bytes, (store, tt)) s (bytes, (at_last store new', tt))
     → (r ≡ s) × (new ≡ new')
@@ -101,7 +102,7 @@ sequentialize_determined κs bytes store r s new new' p q =
     by_reading bytes.now (λ n e. both (rw e at p) (rw e at q)) (λ m rest e. both (rw e at p) (rw e at q))
 
 -- The line table, in a store that holds bytes at exit, as its type says.
-pub lines_determined : (κs : Lfts 2) (bytes store : MutBor (List ℕ)) (r s : ℕ) (new new' : List ℕ) → Bytes new → Bytes new'
+pub lines_determined : (κs : Lfts 2) (bytes : Bor (List ℕ)) (store : MutBor (List ℕ)) (r s : ℕ) (new new' : List ℕ) → Bytes new → Bytes new'
     → lines.Post κs (bytes, (store, tt)) r (bytes, (at_last store new, tt))
     → lines.Post κs (bytes, (store, tt)) s (bytes, (at_last store new', tt))
     → (r ≡ s) × (new ≡ new')
@@ -123,7 +124,7 @@ answered_same {m} {r} {s} {lines} {l} {l'} {schedule} {w} {w'} small small' p q 
     )
 
 -- .. on the model that was read. The line store holds bytes at exit, as its type says.
-pub judge_determined : (κs : Lfts 3) (bytes lines schedule : MutBor (List ℕ)) (r s : ℕ) (l l' w w' : List ℕ) → Bytes l → Bytes l'
+pub judge_determined : (κs : Lfts 3) (bytes : Bor (List ℕ)) (lines schedule : MutBor (List ℕ)) (r s : ℕ) (l l' w w' : List ℕ) → Bytes l → Bytes l'
     → judge.Post κs (bytes, (lines, (schedule, tt))) r (bytes, (at_last lines l, (at_last schedule w, tt)))
     → judge.Post κs (bytes, (lines, (schedule, tt))) s (bytes, (at_last lines l', (at_last schedule w', tt)))
     → (r ≡ s) × (l ≡ l') × (w ≡ w')
@@ -150,7 +151,7 @@ second_determined m second old r s new new' p q =
     written_by_lem (merging_of m n).answer (merging_of m n).model old x.0 y.0
 
 -- .. and the first.
-pub merge_determined : (κs : Lfts 3) (first second store : MutBor (List ℕ)) (r s : ℕ) (new new' : List ℕ)
+pub merge_determined : (κs : Lfts 3) (first second : Bor (List ℕ)) (store : MutBor (List ℕ)) (r s : ℕ) (new new' : List ℕ)
     → merge.Post κs (first, (second, (store, tt))) r (first, (second, (at_last store new, tt)))
     → merge.Post κs (first, (second, (store, tt))) s (first, (second, (at_last store new', tt)))
     → (r ≡ s) × (new ≡ new')
@@ -159,7 +160,7 @@ merge_determined κs first second store r s new new' p q =
     second_determined m second.now store.now r s new new' (rw e at p) (rw e at q)
 
 -- The records of a tray judged: the number, and every byte of the list and of the store.
-pub batch_determined : (κs : Lfts 3) (tray list store : MutBor (List ℕ)) (r s : ℕ) (l l' w w' : List ℕ)
+pub batch_determined : (κs : Lfts 3) (tray : Bor (List ℕ)) (list store : MutBor (List ℕ)) (r s : ℕ) (l l' w w' : List ℕ)
     → batch.Post κs (tray, (list, (store, tt))) r (tray, (at_last list l, (at_last store w, tt)))
     → batch.Post κs (tray, (list, (store, tt))) s (tray, (at_last list l', (at_last store w', tt)))
     → (r ≡ s) × (l ≡ l') × (w ≡ w')

@@ -31,10 +31,10 @@ use Rattle.replay.specs.declared.Replayed.{Replayed}
 use Rattle.replay.specs.declared.Replayed.TheVariants as replayed
 use Rattle.replay.specs.Replay.{replay_of}
 use Rattle.replay.proofs.Ranges.{Ends, replay_ends}
-use Rattle.log.specs.declared.Followed.{Followed}
-use Rattle.log.specs.declared.Followed.TheVariants as following
-use Rattle.log.specs.Log.{followed_of}
-use Rattle.log.proofs.Ranges.{Ends as FollowEnds, follow_ends}
+use Rattle.logs.specs.declared.Followed.{Followed}
+use Rattle.logs.specs.declared.Followed.TheVariants as following
+use Rattle.logs.specs.Log.{followed_of}
+use Rattle.logs.proofs.Ranges.{Ends as FollowEnds, follow_ends}
 use Rattle.page.specs.declared.Paged.{Paged}
 use Rattle.page.specs.declared.Paged.TheVariants as paging
 use Rattle.page.specs.Answer.{replay_refusal, page_refusal, paged_by, paged_of}

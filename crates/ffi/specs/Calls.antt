@@ -11,7 +11,7 @@ use Rattle.record.specs.Reader.{Read, read_of}
 use Rattle.record.specs.Written.{written_of, store_of}
 use Rattle.reach.specs.Answer.{outcome_of, Leaves}
 use Rattle.replay.specs.Replay.{replay_of}
-use Rattle.log.specs.Log.{followed_of}
+use Rattle.logs.specs.Log.{followed_of}
 use Rattle.page.specs.Answer.{paged_of, page_store}
 use Rattle.judge.specs.declared.Judgement.{Judgement}
 use Rattle.judge.specs.Answer.{refusal_of, Answers, LeavesLines, LeavesSchedule}

@@ -5,8 +5,8 @@ use Rattle.batch.specs.declared.Answer.{Answer}
 use Rattle.batch.specs.declared.Answer.TheVariants as batch
 use Rattle.judge.specs.declared.Judgement.{Judgement}
 use Rattle.judge.specs.declared.Judgement.TheVariants as judgement
-use Rattle.log.specs.declared.Followed.{Followed}
-use Rattle.log.specs.declared.Followed.TheVariants as following
+use Rattle.logs.specs.declared.Followed.{Followed}
+use Rattle.logs.specs.declared.Followed.TheVariants as following
 use Rattle.page.specs.declared.Paged.{Paged}
 use Rattle.page.specs.declared.Paged.TheVariants as paging
 use Rattle.reach.specs.declared.Outcome.{Outcome}

@@ -1,4 +1,6 @@
 // The calls for C and Rust: bytes in, a number out, and a record in place of a model. The numbers are defined in specs/.
+#![tactic(auto)]
+
 ghost use Rattle.std.specs.Prelude.{◌≡◌, ◌<◌};
 ghost use Rattle.ffi.specs.Calls.{ReadCall, WriteCall, MergeCall, SecondCall, MergedCall, LinesCall};
 ghost use Rattle.ffi.specs.Calls.{JudgeCall, ReplayCall, PageCall, FollowCall, FirstCall, BatchCall, SequentializeCall};
@@ -6,7 +8,7 @@ ghost use Rattle.ffi.specs.Replies.{packed, FieldsFit, end_kind};
 ghost use Rattle.model.specs.Valid.{Valid};
 
 use judge::Judgement;
-use log::Followed;
+use logs::Followed;
 use merge::Merged;
 use model::{Depths, Model};
 use page::Paged;
@@ -214,7 +216,7 @@ pub extern "C" fn turncheck_follow(bytes: &[u8], log: &[u8]) -> u64
     let reading = record::read(bytes);
     let answer = reading.answer;
     match answer {
-        Answer::Accepted => match log::follow(reading.model, log) {
+        Answer::Accepted => match logs::follow(reading.model, log) {
             Followed::Accepted(shared, rounds) => {
                 with_fields(FOLLOWED, shared.0 as u64, rounds as u64, 0)
             }

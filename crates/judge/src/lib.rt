@@ -1,4 +1,6 @@
 // The verdict on a model, over runs of any length and depth.
+#![tactic(auto)]
+
 ghost use Rattle.std.specs.Prelude.{false, ◌≡◌, ◌*◌, ◌^◌, ◌≤◌, length};
 ghost use Rattle.model.specs.declared.Top.TheVariants.{Any};
 ghost use Rattle.model.specs.First.{LeastSchedule};
@@ -22,7 +24,7 @@ use summary::CAP;
 use summary::cells::{SIZE, SMALL};
 
 // A verdict, Found with the number of steps of a shortest run and the depths of the stacks in the least of these; or a refusal's number.
-#[derive(Drop)]
+#[derive(Clone, Copy)]
 pub enum Judgement {
     Clear,
     Long,

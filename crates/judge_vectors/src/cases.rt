@@ -10,7 +10,7 @@ const LONG: u8 = 1;
 const FOUND: u8 = 2;
 
 // What is known of a model: its verdict, and where it is Found, the steps and the depths of A and B, else 0.
-#[derive(Drop)]
+#[derive(Clone, Copy)]
 pub struct Known {
     pub kind: u8,
     pub steps: usize,

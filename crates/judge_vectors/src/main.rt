@@ -1,6 +1,10 @@
 // Judges document 01's models, some with tops and some with held rules, ties, the longest and deepest ones we know and files of random ones,
 // and compares: verdict, steps, depths, line table, and every byte of the schedule store.
+#![tactic(auto)]
+
 use cases::Known;
+use std::io;
+use std::rt::Files;
 use vectors::{Case, Tally};
 
 mod cases;
@@ -212,28 +216,28 @@ fn corpus(s: &[u8]) -> Tally {
 }
 
 // The cases of a file, which the store has room for.
-fn file(name: &[u8], store: &mut [u8]) {
-    let n = vectors::load(name, store);
-    corpus(&store[0..n]).report(name);
+fn file(rt: &(impl Files + Print + Eprint), name: &[u8], store: &mut [u8]) -> io::Result<()> {
+    let n = vectors::load(rt, name, store);
+    corpus(&store[0..n]).report(rt, name)
 }
 
 // The files: the models of bindings/cases.txt with tops, and those that double their steps, nest deepest and take longest; models with
 // several shortest schedules; then random ones.
-fn files() {
-    let mut store = [0u8; 610000];
-    file(b"tops.bin", &mut store);
-    file(b"deep.bin", &mut store);
-    file(b"ties.bin", &mut store);
-    file(b"verdicts-1.bin", &mut store);
-    file(b"verdicts-2.bin", &mut store);
-    file(b"verdicts-3.bin", &mut store);
+fn files(rt: &(impl Files + Print + Eprint + Alloc)) -> io::Result<()> {
+    let mut store = vec![in rt.alloc(); 0u8; 610000]?;
+    file(rt, b"tops.bin", &mut store)?;
+    file(rt, b"deep.bin", &mut store)?;
+    file(rt, b"ties.bin", &mut store)?;
+    file(rt, b"verdicts-1.bin", &mut store)?;
+    file(rt, b"verdicts-2.bin", &mut store)?;
+    file(rt, b"verdicts-3.bin", &mut store)
 }
 
-fn main() {
-    document().report(b"document 01");
-    tops().report(b"tops");
-    held().report(b"held rules");
-    depths().report(b"depths");
-    limits().report(b"stores and counts");
-    files();
+fn main(rt: HostRuntime) -> io::Result<()> {
+    document().report(&rt, b"document 01")?;
+    tops().report(&rt, b"tops")?;
+    held().report(&rt, b"held rules")?;
+    depths().report(&rt, b"depths")?;
+    limits().report(&rt, b"stores and counts")?;
+    files(&rt)
 }

@@ -1,6 +1,10 @@
 // Follows logs by hand and files of them, and compares: the last shared state and the rounds, or the refusal's number.
-use log::Followed;
+#![tactic(auto)]
+
+use logs::Followed;
 use model::Model;
+use std::io;
+use std::rt::Files;
 use vectors::{Case, Tally};
 
 // A model at K=1 with one rule in A and one in B, which always apply and change nothing; and with A's held.
@@ -14,7 +18,7 @@ const PUSH: [u8; 7] = *b"\x48\x01\x01\x06\x00\x00\x01";
 
 // A log of a model gets this answer: 0 with the last shared state and the rounds, or a refusal's number.
 fn answers(m: Model, steps: &[u8], answer: u8, last: u8, rounds: usize) -> bool {
-    match log::follow(m, steps) {
+    match logs::follow(m, steps) {
         Followed::Accepted(shared, n) => answer == 0 && shared.0 == last && n == rounds,
         Followed::Refused(n) => n == answer,
     }
@@ -189,19 +193,19 @@ fn corpus(s: &[u8]) -> Tally {
 }
 
 // The cases of a file, which the store has room for.
-fn file(path: &[u8], store: &mut [u8]) {
-    let n = vectors::load(path, store);
-    corpus(&store[0..n]).report(path);
+fn file(rt: &(impl Files + Print + Eprint), path: &[u8], store: &mut [u8]) -> io::Result<()> {
+    let n = vectors::load(rt, path, store);
+    corpus(&store[0..n]).report(rt, path)
 }
 
 // The file of the longest has logs that change the thread at every byte, from A on and from B on: 4,094, 4,095 and 4,096 bytes.
-fn main() {
-    document().report(b"document 01");
-    threads().report(b"rounds by threads");
-    held().report(b"held rules");
-    sizes().report(b"bit 6 and sizes");
-    values().report(b"models as values");
+fn main(rt: HostRuntime) -> io::Result<()> {
+    document().report(&rt, b"document 01")?;
+    threads().report(&rt, b"rounds by threads")?;
+    held().report(&rt, b"held rules")?;
+    sizes().report(&rt, b"bit 6 and sizes")?;
+    values().report(&rt, b"models as values")?;
     let mut store = [0u8; 130000];
-    file(b"longest.bin", &mut store);
-    file(b"logs.bin", &mut store);
+    file(&rt, b"longest.bin", &mut store)?;
+    file(&rt, b"logs.bin", &mut store)
 }

@@ -13,7 +13,7 @@ use Rattle.model.specs.Order.{key_of}
 use Rattle.model.specs.Rules.{rule_at, held_at}
 use Rattle.model.proofs.Keys.{one_key}
 use Rattle.model.proofs.Sets.{rising, one_place, thread_rises}
-use Rattle.merge.specs.Union.{Entry, key_in, entry_of, both, union_of, clash, Clashing}
+use Rattle.merge.specs.Union.{Entry, key_in, entry_of, union_of, clash, Clashing}
 use Rattle.merge.proofs.Ascending.{listed}
 use Rattle.merge.proofs.Inserted.{All, end, also}
 use Rattle.merge.proofs.Made.{union_ascends}

@@ -51,6 +51,7 @@ module _ {t : Thread} {r : ℕ} where
   -- So it is there when lists are joined that have it, in the one or in the other.
   join_left : (xs ys : List Entry) → Some (StandsFor t r) xs → Some (StandsFor t r) (join xs ys)
   unfolding join
+  join_left [] ys x' = elim x' [ ]
   join_left (x ∷ xs) ys (here c) = put-new (puts x (join xs ys)) c
   join_left (x ∷ xs) ys (there c) = put_old (puts x (join xs ys)) (join_left xs ys c)
 
@@ -99,6 +100,7 @@ neither true b c = absurd (true≢false c)
 
 stands_as : {t : Thread} {r : ℕ} (es : List Entry) → clash es ≡ false → Some (StandsFor t r) es → Some (StandsAs t r) es
 unfolding clash
+stands_as {t = t} {r = r} [] c x'' = elim x'' [ ]
 stands_as {t} {r} (e ∷ es) c (here s) =
     here (record { key = s.key; held = as_held (held_at t r) e s.flag (neither (e.held && e.free) (clash es) c).0 })
 stands_as (e ∷ es) c (there s) = there (stands_as es (neither (e.held && e.free) (clash es) c).1 s)

@@ -1,5 +1,7 @@
 // Two models made one: the head that they share, and in each thread the rules of either, each once, in order, and held as it was. What that
 // means is defined in specs/.
+#![tactic(auto)]
+
 ghost use Rattle.std.specs.Prelude.{◌≡◌};
 ghost use Rattle.merge.specs.Answer.{same_top, same_fields, same_head, parts_fault, clash_fault, size_fault};
 ghost use Rattle.merge.specs.Answer.{made_one, merging_by, merging_of, Makes};
@@ -11,14 +13,14 @@ use model::{Model, Rule, Thread, Top};
 mod join;
 
 // Whether a model was made, or the refusal's number.
-#[derive(Drop)]
+#[derive(Clone, Copy)]
 pub enum Merged {
     Done,
     Refused(u8),
 }
 
 // The model of both; all places are zero where they are refused.
-#[derive(Drop)]
+#[derive(Clone, Copy)]
 pub struct Merging {
     pub answer: Merged,
     pub model: Model,
@@ -165,7 +167,7 @@ fn same_top(x: Top, y: Top) -> bool
 // What joining two threads' rules comes to, part by part.
 
 // A rule of one thread or of both: whether one has it held and whether one has it free; and the numbers of the rules after it.
-#[derive(Drop)]
+#[derive(Clone, Copy)]
 pub struct Next {
     pub rule: Rule,
     pub held: bool,
@@ -176,7 +178,7 @@ pub struct Next {
 
 // The rules of both, as far as there is room: the first `count` places are used, and the others are zero. `fits` is false where there are
 // more than 64.
-#[derive(Drop)]
+#[derive(Clone, Copy)]
 pub struct Filled {
     pub fits: bool,
     pub count: usize,
@@ -185,7 +187,7 @@ pub struct Filled {
 }
 
 // A thread with the rules of both, where there are no more than 64.
-#[derive(Drop)]
+#[derive(Clone, Copy)]
 pub struct Joined {
     pub fits: bool,
     pub thread: Thread,

@@ -1,7 +1,11 @@
 // Merges models made by hand and pairs of records from files, and compares: the answer, the record of both, and what the store keeps.
+#![tactic(auto)]
+
 use merge::{Merged, Merging};
 use model::Model;
 use record::{Answer, Reading, Written};
+use std::io;
+use std::rt::Files;
 use vectors::{Case, Tally};
 
 // What every byte of a store holds before a call.
@@ -17,7 +21,7 @@ const LESS_TWO: [u8; 15] = *b"\xC8\x03\x02\x06\x00\x00\x00\x01\x00\x01\x01\x03\x
 const USES_ONE: [u8; 5] = *b"\x48\x03\x01\x00\x01";
 
 // An answer's number, 0 where a record was written, and the record's length.
-#[derive(Drop)]
+#[derive(Clone, Copy)]
 struct Made {
     answer: u8,
     length: usize,
@@ -218,15 +222,15 @@ fn corpus(s: &[u8]) -> Tally {
 }
 
 // The cases of a file, which the store has room for.
-fn file(name: &[u8], store: &mut [u8]) {
-    let n = vectors::load(name, store);
-    corpus(&store[0..n]).report(name);
+fn file(rt: &(impl Files + Print + Eprint), name: &[u8], store: &mut [u8]) -> io::Result<()> {
+    let n = vectors::load(rt, name, store);
+    corpus(&store[0..n]).report(rt, name)
 }
 
 // cases.bin has the pairs of bindings/cases.txt, and merges.bin random ones.
-fn main() {
-    values().report(b"values");
+fn main(rt: HostRuntime) -> io::Result<()> {
+    values().report(&rt, b"values")?;
     let mut store = [0u8; 210000];
-    file(b"cases.bin", &mut store);
-    file(b"merges.bin", &mut store);
+    file(&rt, b"cases.bin", &mut store)?;
+    file(&rt, b"merges.bin", &mut store)
 }

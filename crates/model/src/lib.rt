@@ -1,5 +1,7 @@
 // A model: two threads with stacks (pushdown systems) that share one state, and the question asked of them.
 // What a model means (steps, runs, lines, verdicts) is defined in specs/.
+#![tactic(auto)]
+
 ghost use Rattle.std.specs.Prelude.{◌≡◌};
 ghost use Rattle.model.specs.Bits.{bit_at, all_zero};
 ghost use Rattle.model.specs.Order.{key_of};
@@ -10,15 +12,15 @@ ghost use Rattle.model.specs.Zero.{zero_model};
 mod faults;
 
 // A shared state, 0 to G−1. Never a stack symbol, though both are numbered from 0.
-#[derive(Drop)]
+#[derive(Clone, Copy)]
 pub struct Shared(pub u8);
 
 // A stack symbol, 0 to 15.
-#[derive(Drop)]
+#[derive(Clone, Copy)]
 pub struct Symbol(pub u8);
 
 // The right side of a rule: what comes in place of the top symbol, its first symbol on top.
-#[derive(Drop)]
+#[derive(Clone, Copy)]
 pub enum Right {
     Remove,
     Swap(Symbol),
@@ -26,7 +28,7 @@ pub enum Right {
 }
 
 // A rule of a pushdown system: it applies at shared state `before` with `symbol` on top, and leads to `after`.
-#[derive(Drop)]
+#[derive(Clone, Copy)]
 pub struct Rule {
     pub before: Shared,
     pub symbol: Symbol,
@@ -35,7 +37,7 @@ pub struct Rule {
 }
 
 // What is asked of a stack where a run ends: nothing, or that a named symbol is its top.
-#[derive(Drop)]
+#[derive(Clone, Copy)]
 pub enum Top {
     Any,
     Named(Symbol),
@@ -44,7 +46,7 @@ pub enum Top {
 // A thread: how many stack symbols it has (the size of its stack alphabet), the symbol its stack holds at the start, what is asked of its
 // top at the target, which of its rules are held, and its first `count` rules. The places from `count` on are unused. Rule r is held where
 // bit r mod 8 of byte r div 8 stands: no turn ends right after it.
-#[derive(Drop)]
+#[derive(Clone, Copy)]
 pub struct Thread {
     pub symbols: u8,
     pub first: Symbol,
@@ -55,14 +57,14 @@ pub struct Thread {
 }
 
 // The two threads. Even turns are A's, odd ones B's.
-#[derive(Drop)]
+#[derive(Clone, Copy)]
 pub enum ThreadId {
     A,
     B,
 }
 
 // G shared states, K rounds, the start and target states, and the two threads. The target is its state under both threads' tops.
-#[derive(Drop)]
+#[derive(Clone, Copy)]
 pub struct Model {
     pub g: u8,
     pub k: u8,
@@ -73,7 +75,7 @@ pub struct Model {
 }
 
 // How many symbols each stack held at most in a run, the one at the start counted.
-#[derive(Drop)]
+#[derive(Clone, Copy)]
 pub struct Depths {
     pub a: usize,
     pub b: usize,

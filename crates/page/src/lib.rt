@@ -1,4 +1,6 @@
 // The page of a schedule, for people to look at: a line for each step, and a foot line. Its text is defined in specs/.
+#![tactic(auto)]
+
 ghost use Rattle.std.specs.Prelude.{◌≡◌, ◌+◌, ◌*◌, ◌/◌, ◌≤◌, ◌<◌, length};
 ghost use Rattle.model.specs.Schedules.{steps_of};
 ghost use Rattle.page.specs.Answer.{paged_of, page_store};
@@ -15,7 +17,7 @@ mod foot;
 mod line;
 
 // The answer to a call that makes a page: the page's length, or a refusal's number.
-#[derive(Drop)]
+#[derive(Clone, Copy)]
 pub enum Paged {
     Length(usize),
     Refused(u8),

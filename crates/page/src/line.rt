@@ -115,6 +115,7 @@ fn hex_digit(symbol: u8) -> u8
 }
 
 // The mark of a line, by the depths of both stacks.
+#[tactic(auto, unfolding(crate::specs::Page::mark))]
 fn mark_of(a: usize, b: usize) -> u8
     ensures { result ≡ mark a b }
 {

@@ -1,5 +1,9 @@
 // Makes pages by hand and of a file of random schedules, and compares: the answer, the page, and what the store keeps.
+#![tactic(auto)]
+
 use page::Paged;
+use std::io;
+use std::rt::Files;
 use vectors::{Case, Tally};
 
 // What every byte of a store holds before a call.
@@ -21,7 +25,7 @@ const LAST_FOOT: [u8; 73] =
     *b"4095 1 4095 0                                                           \n";
 
 // An answer's number, 0 where a page was made, and the page's length.
-#[derive(Drop)]
+#[derive(Clone, Copy)]
 struct Made {
     answer: u8,
     length: usize,
@@ -90,23 +94,29 @@ fn case(bytes: &[u8], schedule: &[u8], answer: u8, page: &[u8]) -> bool {
 }
 
 // The page of a schedule is that of a text file.
-fn looks(bytes: &[u8], schedule: &[u8], path: &[u8], store: &mut [u8]) -> bool {
-    let n = vectors::load(path, store);
+fn looks(
+    rt: &(impl Files + Eprint),
+    bytes: &[u8],
+    schedule: &[u8],
+    path: &[u8],
+    store: &mut [u8],
+) -> bool {
+    let n = vectors::load(rt, path, store);
     case(bytes, schedule, 0, &store[0..n])
 }
 
 // Document 01's models; stacks of up to 29 symbols, 0 above 1s, in A and in B.
-fn by_hand() -> Tally {
+fn by_hand(rt: &(impl Files + Eprint)) -> Tally {
     let one = vectors::ONE;
     let two = vectors::TWO;
     let deep_b = *b"\x88\x01\x02\x00\x00\x06\x00\x00\x01";
     let mut store = [0u8; 4500];
     let mut t = Tally::new();
-    t = t.counted(looks(&one, &[0, 0], b"one.txt", &mut store));
-    t = t.counted(looks(&two, &[0, 0, 0, 1, 1, 0, 2, 2], b"two.txt", &mut store));
-    t = t.counted(looks(&two, &[], b"none.txt", &mut store));
-    t = t.counted(looks(&DEEP, &[0; 56], b"deep_a.txt", &mut store));
-    t.counted(looks(&deep_b, &[1; 56], b"deep_b.txt", &mut store))
+    t = t.counted(looks(rt, &one, &[0, 0], b"one.txt", &mut store));
+    t = t.counted(looks(rt, &two, &[0, 0, 0, 1, 1, 0, 2, 2], b"two.txt", &mut store));
+    t = t.counted(looks(rt, &two, &[], b"none.txt", &mut store));
+    t = t.counted(looks(rt, &DEEP, &[0; 56], b"deep_a.txt", &mut store));
+    t.counted(looks(rt, &deep_b, &[1; 56], b"deep_b.txt", &mut store))
 }
 
 // Model Two, handed in with this count of A's rules, is refused with this number. The rules behind its own three are blank.
@@ -225,15 +235,15 @@ fn corpus(s: &[u8]) -> Tally {
 }
 
 // The cases of the file, which the store has room for.
-fn file(store: &mut [u8]) {
-    let n = vectors::load(b"pages.bin", store);
-    corpus(&store[0..n]).report(b"pages.bin");
+fn file(rt: &(impl Files + Print + Eprint), store: &mut [u8]) -> io::Result<()> {
+    let n = vectors::load(rt, b"pages.bin", store);
+    corpus(&store[0..n]).report(rt, b"pages.bin")
 }
 
-fn main() {
-    by_hand().report(b"by hand");
-    refused().report(b"refused");
-    at_length().report(b"longest schedule");
+fn main(rt: HostRuntime) -> io::Result<()> {
+    by_hand(&rt).report(&rt, b"by hand")?;
+    refused().report(&rt, b"refused")?;
+    at_length().report(&rt, b"longest schedule")?;
     let mut store = [0u8; 410000];
-    file(&mut store);
+    file(&rt, &mut store)
 }

@@ -1,4 +1,6 @@
 // The table of marked lines, drawn from both threads' costs of all full lines.
+#![tactic(auto)]
+
 ghost use Rattle.std.specs.Prelude.{◌≡◌, ◌≤◌, length};
 ghost use Rattle.model.specs.Fits.{Fits};
 ghost use Rattle.model.specs.Tables.{bytes_for, LineTable};
@@ -10,7 +12,7 @@ use model::Model;
 use summary::cells::{SIZE, SMALL};
 
 // The answer to a call that fills a line table: done, or a refusal's number.
-#[derive(Drop)]
+#[derive(Clone, Copy)]
 pub enum Outcome {
     Done,
     Refused(u8),

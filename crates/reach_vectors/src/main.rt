@@ -1,6 +1,9 @@
 // Fills the line tables of document 01's models, and compares. Random models are compared where they are judged.
+#![tactic(auto)]
+
 use model::Model;
 use reach::Outcome;
+use std::io;
 use vectors::Tally;
 
 // The number of an outcome: 0 where the table is filled.
@@ -95,8 +98,8 @@ fn held() -> Tally {
     ))
 }
 
-fn main() {
-    document().report(b"document 01");
-    tops().report(b"tops");
-    held().report(b"held rules");
+fn main(rt: HostRuntime) -> io::Result<()> {
+    document().report(&rt, b"document 01")?;
+    tops().report(&rt, b"tops")?;
+    held().report(&rt, b"held rules")
 }

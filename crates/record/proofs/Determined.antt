@@ -5,6 +5,7 @@ use mathlib.Core.Path.{◌≡◌, sym, ap, ◌∙◌}
 use Prim.Native.Nat.{ℕ, ◌≤◌}
 use native.Mathlib.Omega.{arith}
 use contract.Lifetimes.{Lfts}
+use denote.Bor.{Bor}
 use denote.Ref.{MutBor, at_last}
 use lib.ListN.{length, drop, length-drop}
 use Rattle.model.specs.declared.Model.{Model}
@@ -33,7 +34,7 @@ same_taken s m n (Refused i) (Refused j) e h k = let same : i ≡ j = cc in ap R
 -- Each contract is `Post`, of the arguments, the answer and the arguments at exit. Two results that meet it are the same: it determines ..
 
 -- .. the answer of `read` with its model, ..
-pub read_determined : (κs : Lfts 1) (bytes : MutBor (List ℕ)) (r s : Reading)
+pub read_determined : (κs : Lfts 1) (bytes : Bor (List ℕ)) (r s : Reading)
     → read.Post κs (bytes, tt) r (bytes, tt) → read.Post κs (bytes, tt) s (bytes, tt) → r ≡ s
 read_determined κs bytes r s p q = p.0 ∙ sym q.0
 
@@ -44,7 +45,7 @@ pub write_determined : (κs : Lfts 1) (m : Model) (store : MutBor (List ℕ)) (r
 write_determined κs m store r s new new' p q = (p.0 ∙ sym q.0, p.1.0 ∙ sym q.1.0)
 
 -- .. and the answer of the reader of the front, with its model.
-pub front_determined : (κs : Lfts 1) (bytes : MutBor (List ℕ)) (r s : Front)
+pub front_determined : (κs : Lfts 1) (bytes : Bor (List ℕ)) (r s : Front)
     → front.Post κs (bytes, tt) r (bytes, tt) → front.Post κs (bytes, tt) s (bytes, tt) → r ≡ s
 front_determined κs bytes r s p q =
     let f = same_taken bytes.now r.model s.model r.answer s.answer in

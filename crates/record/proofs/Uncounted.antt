@@ -1,6 +1,6 @@
 -- Records without symbol counts mean what they meant. Both readers go the same way up to the second map. Below 16 that has no bit for a
 -- count, so both go on alike; and each thread has 16 symbols, which every symbol that was read is below.
-use mathlib.Core.Bool.{Bool, true, false, not, true≢false}
+use mathlib.Core.Bool.{Bool, true, false, true≢false}
 use mathlib.Core.List.{List, [], ◌∷◌}
 use mathlib.Core.Logic.{inl, inr}
 use mathlib.Core.Path.{◌≡◌, refl, sym, ◌∙◌}

@@ -1,6 +1,10 @@
 // Runs document 01's records and a file of random ones through the reader and the writer, and compares.
+#![tactic(auto)]
+
 use model::Model;
 use record::{Answer, Written};
+use std::io;
+use std::rt::Files;
 use vectors::Tally;
 
 // The number of a record's answer: 0 where it is accepted.
@@ -127,23 +131,23 @@ fn corpus(s: &[u8]) -> Tally {
 }
 
 // The cases of a file, which the store has room for.
-fn file(name: &[u8], store: &mut [u8]) {
-    let n = vectors::load(name, store);
-    corpus(&store[0..n]).report(name);
+fn file(rt: &(impl Files + Print + Eprint), name: &[u8], store: &mut [u8]) -> io::Result<()> {
+    let n = vectors::load(rt, name, store);
+    corpus(&store[0..n]).report(rt, name)
 }
 
 // counts.bin has lists of 0, 64 and 65 rules. held.bin has what document 02 says of held rules: marks for A, for B and for both, and each
 // refusal in its order. order.bin has the records of bindings/cases.txt that are about the order of rules, and symbols.bin those that are
 // about symbol counts. longest.bin has the longest record, of 670 bytes, and the same with a byte less, with one more, and with its last
 // symbol at the count.
-fn main() {
-    document().report(b"document 01");
-    second_maps().report(b"second maps");
+fn main(rt: HostRuntime) -> io::Result<()> {
+    document().report(&rt, b"document 01")?;
+    second_maps().report(&rt, b"second maps")?;
     let mut store = [0u8; 100000];
-    file(b"counts.bin", &mut store);
-    file(b"held.bin", &mut store);
-    file(b"order.bin", &mut store);
-    file(b"symbols.bin", &mut store);
-    file(b"longest.bin", &mut store);
-    file(b"records.bin", &mut store);
+    file(&rt, b"counts.bin", &mut store)?;
+    file(&rt, b"held.bin", &mut store)?;
+    file(&rt, b"order.bin", &mut store)?;
+    file(&rt, b"symbols.bin", &mut store)?;
+    file(&rt, b"longest.bin", &mut store)?;
+    file(&rt, b"records.bin", &mut store)
 }

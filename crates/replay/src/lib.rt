@@ -1,4 +1,6 @@
 // The walk of a schedule: replay accepts exactly the legal ones.
+#![tactic(auto)]
+
 ghost use Rattle.std.specs.Prelude.{◌≡◌, ◌≤◌, length};
 ghost use Rattle.model.specs.Walk.{at_target};
 ghost use Rattle.replay.specs.Replay.{replay_of};
@@ -10,7 +12,7 @@ use walk::{STACK, Stepped, Walk};
 
 // What a schedule comes to: the last shared state, whether its run ends at the target, and the depths of its stacks; or the number of
 // its first fault.
-#[derive(Drop)]
+#[derive(Clone, Copy)]
 pub enum Replayed {
     Accepted(Shared, bool, Depths),
     Refused(u8),

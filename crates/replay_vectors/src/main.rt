@@ -1,5 +1,9 @@
 // Replays document 01's schedules and a file of random ones, and compares.
+#![tactic(auto)]
+
 use replay::Replayed;
+use std::io;
+use std::rt::Files;
 use vectors::{Case, Tally};
 
 // A schedule of the model that a record holds gets this answer: 0 with the last shared state, whether its run ends at the target, and the
@@ -179,17 +183,17 @@ fn corpus(s: &[u8]) -> Tally {
 }
 
 // The cases of the file, which the store has room for.
-fn file(store: &mut [u8]) {
-    let n = vectors::load(b"schedules.bin", store);
-    corpus(&store[0..n]).report(b"schedules.bin");
+fn file(rt: &(impl Files + Print + Eprint), store: &mut [u8]) -> io::Result<()> {
+    let n = vectors::load(rt, b"schedules.bin", store);
+    corpus(&store[0..n]).report(rt, b"schedules.bin")
 }
 
-fn main() {
-    document().report(b"document 01");
-    tops().report(b"tops");
-    held().report(b"held rules");
-    longest().report(b"longest schedules");
-    depths().report(b"depths");
+fn main(rt: HostRuntime) -> io::Result<()> {
+    document().report(&rt, b"document 01")?;
+    tops().report(&rt, b"tops")?;
+    held().report(&rt, b"held rules")?;
+    longest().report(&rt, b"longest schedules")?;
+    depths().report(&rt, b"depths")?;
     let mut store = [0u8; 450000];
-    file(&mut store);
+    file(&rt, &mut store)
 }

@@ -5,6 +5,7 @@ use mathlib.Core.Path.{◌≡◌, sym, ap, subst, ◌∙◌}
 use Prim.Native.Nat.{ℕ}
 use native.Mathlib.Omega.{arith}
 use contract.Lifetimes.{Lfts}
+use denote.Bor.{Bor}
 use denote.Ref.{MutBor, at_last}
 use lib.ListN.{length}
 use Rattle.model.specs.declared.Model.{Model}
@@ -55,7 +56,7 @@ reports_fixed bytes (short h p e) (text k q) = absurd (omega arith)
 
 -- The contract (`Post`, of the arguments, the answer and the arguments at exit) determines the answer and every byte of the store: two
 -- results that meet it are the same.
-pub report_determined : (κs : Lfts 2) (bytes store : MutBor (List ℕ)) (r s : ℕ) (new new' : List ℕ)
+pub report_determined : (κs : Lfts 2) (bytes : Bor (List ℕ)) (store : MutBor (List ℕ)) (r s : ℕ) (new new' : List ℕ)
     → report.Post κs (bytes, (store, tt)) r (bytes, (at_last store new, tt))
     → report.Post κs (bytes, (store, tt)) s (bytes, (at_last store new', tt))
     → (r ≡ s) × (new ≡ new')

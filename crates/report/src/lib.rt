@@ -1,4 +1,6 @@
 // What is printed for a record: the verdict on its model, or the refusal. The text is defined in specs/.
+#![tactic(auto)]
+
 ghost use Rattle.std.specs.Prelude.{◌≤◌, length};
 ghost use Rattle.model.specs.Valid.{Valid};
 ghost use Rattle.report.specs.Prints.{Told, Prints, Begins, text_room, Reports};

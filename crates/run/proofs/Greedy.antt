@@ -14,7 +14,6 @@ use Rattle.model.specs.Rules.{put, rule_at}
 use Rattle.model.specs.Schedules.{most_steps}
 use Rattle.model.specs.Walk.{Step}
 use Rattle.model.proofs.Firsts.{before_cons}
-use Rattle.costs.specs.Cost.{control}
 use Rattle.costs.specs.Ends.{turn_of}
 use Rattle.summary.specs.Control.{Control}
 use Rattle.summary.specs.Stretch.{Path}
@@ -46,6 +45,7 @@ module _ {exits plan : List ℕ} (w : Setting exits plan) where
 
   -- After a turn end no run stands before one that goes on in the turn.
   not_later : (j : ℕ) {s : Step} {ss ts : List Step} → s.turn ≡ turn_of w.id j → FirstIn w.id (suc j) ts → Before ts (s ∷ ss) → ⊥
+  not_later j {s = s} {ss = ss} e none b = elim b [ ]
   not_later j {s} e (at {s = t} k l f) b =
       ⊎_elim (λ h. sooner h) (λ h. omega (arith, turn_rises w.id j k l, ap (λ (u : Step). u.turn) h.0)) (before_cons b)
     where

@@ -15,7 +15,7 @@ use Rattle.model.proofs.Inside.{applies_iff}
 use Rattle.costs.specs.Cost.{control}
 use Rattle.costs.specs.Ends.{turn_of}
 use Rattle.costs.proofs.Pairs.{floor_low, never}
-use Rattle.summary.specs.Control.{Control, number, numbered, Moves, Switches, InTable}
+use Rattle.summary.specs.Control.{Control, numbered, Moves, Switches, InTable}
 use Rattle.summary.specs.Stretch.{End, pop, stay, end_of, Asks, Path, Stretch}
 use Rattle.summary.specs.Table.{Exact}
 use Rattle.summary.proofs.Floors.{first_return, floored, unfloored}

@@ -8,7 +8,7 @@ use crate::plan::{PLAN_SIZE, byte, rule_of, wide};
 use model::Right;
 
 // After `passed` of the `ends` turn ends of the thread, at control number `control`, with `symbol` on top and `under` symbols under it.
-#[derive(Drop)]
+#[derive(Clone, Copy)]
 pub struct Head {
     pub passed: usize,
     pub ends: usize,
@@ -18,7 +18,7 @@ pub struct Head {
 }
 
 // What is left after a step: an empty stack, a head, or a head with another symbol right under it.
-#[derive(Drop)]
+#[derive(Clone, Copy)]
 pub enum Onward {
     Done,
     One(Head),

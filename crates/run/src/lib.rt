@@ -1,4 +1,6 @@
 // One thread's steps along a line: of its shortest runs, the first.
+#![tactic(auto)]
+
 mod exits;
 mod head;
 pub mod levels;

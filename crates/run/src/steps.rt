@@ -24,7 +24,7 @@ use model::{MOST_BYTES, Thread, ThreadId, Top};
 use summary::{UNREACHED, stays_of};
 
 // Where a thread starts along a line, and the destination of its end.
-#[derive(Drop)]
+#[derive(Clone, Copy)]
 pub struct Start {
     pub head: Head,
     pub dest: usize,

@@ -112,7 +112,7 @@ acts_most t id s top = many (λ r. act_of (rule_at t r) id s top) 1 t.count (λ 
 -- .. and the pass, B's begin and the close are one each.
 pass_most : (s : State) (top : ℕ) → length (pass_of s top) ≤ 1
 unfolding pass_of
-pass_most s top = most_one (leb top 33) _
+pass_most s top = most_one _ _
 
 begin_most : (b : Thread) (s : State) (top : ℕ) → length (begin_of b s top) ≤ 1
 unfolding begin_of

@@ -63,7 +63,7 @@ module _ (s : State) (top : ℕ) where
 
   pub pass_alone : Ascends (pass_of s top)
   unfolding pass_of
-  pass_alone = ascends_only (leb top 33) (pass_rule s top)
+  pass_alone = ascends_only _ (pass_rule s top)
 
   pub close_alone : Ascends (close_of s top)
   unfolding close_of

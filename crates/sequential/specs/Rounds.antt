@@ -19,8 +19,8 @@ pub record Rounds (m : Model) (gs : List ℕ) (e : ℕ) : Type 0 where
   pub ends : round_ends line ≡ gs ++ (e ∷ [])
   pub run : Marked m line
 
--- From counter 1, copies (start, g2 .. g_k) and A's first symbol over its mark, the check symbol can come on top at counter 1 with copies
--- (g2 .. g_k, e).
+-- From counter 1, copies (start, g2 .. gK) and A's first symbol over its mark, the check symbol can come on top at counter 1 with copies
+-- (g2 .. gK, e).
 abbrev pub Checks : (StackRule → Type 0) → Model → List ℕ → ℕ → Type 0
 Checks Allows m gs e =
     Tops Allows (closing B) (at 1 (m.start.0 ∷ gs)) (symbol_of A m.a.first.0 ∷ bottom A ∷ []) (at 1 (gs ++ (e ∷ [])))

@@ -1,5 +1,7 @@
 // The sequential system of a model: a pushdown system with one stack that stands for both threads, so that a checker of single-threaded
 // rule tables can decide what K rounds reach. Its rules are defined in specs/, and what they are for is proved in proofs/.
+#![tactic(auto)]
+
 ghost use Rattle.std.specs.Prelude.{◌≡◌, ◌+◌, ◌≤◌, length};
 ghost use Rattle.model.specs.Fits.{Fits};
 ghost use Rattle.sequential.specs.Answer.{plain, model_refusal, text_for, printed_of, print_store};
@@ -12,14 +14,14 @@ mod rules;
 mod threads;
 
 // The answer to a call that prints the rules: the length of the text, or a refusal's number.
-#[derive(Drop)]
+#[derive(Clone, Copy)]
 pub enum Printed {
     Length(usize),
     Refused(u8),
 }
 
 // A rule of the system. A state is up to four digits, its counter and then its copies; of these a model with K rounds has K + 1.
-#[derive(Drop)]
+#[derive(Clone, Copy)]
 pub struct Transition {
     pub from: [u8; 4],
     pub top: u8,

@@ -150,6 +150,7 @@ fn put_close(store: &mut [u8], at: usize, k: usize, s: [u8; 4], top: u8, write: 
 }
 
 // The symbol that comes over a top: the helper over A's, the check symbol over B's.
+#[tactic(auto, unfolding(crate::specs::Allowed::owns))]
 fn closing_of(top: u8) -> u8
     ensures { result ≡ closing (holder_of top) }
 {

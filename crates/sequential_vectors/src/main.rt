@@ -1,6 +1,10 @@
 // Prints the rules of models by hand and of files of random ones, and compares: the answer, the text, and what the store keeps.
+#![tactic(auto)]
+
 use model::Model;
 use sequential::Printed;
+use std::io;
+use std::rt::Files;
 use vectors::{Case, Tally};
 
 // What every byte of a store holds before a call.
@@ -16,7 +20,7 @@ const HELD_ONE: [u8; 17] = *b"\x4B\x02\x01\x81\x04\x01\x00\x00\x00\x00\x00\x00\x
 const PUSH: [u8; 7] = *b"\x48\x01\x01\x06\x00\x00\x01";
 
 // An answer's number, 0 where rules were printed, and the length of their text.
-#[derive(Drop)]
+#[derive(Clone, Copy)]
 struct Made {
     answer: u8,
     length: usize,
@@ -166,17 +170,17 @@ fn corpus(s: &[u8]) -> Tally {
 }
 
 // The cases of a file, which the store has room for.
-fn file(path: &[u8], store: &mut [u8]) {
-    let n = vectors::load(path, store);
-    corpus(&store[0..n]).report(path);
+fn file(rt: &(impl Files + Print + Eprint), path: &[u8], store: &mut [u8]) -> io::Result<()> {
+    let n = vectors::load(rt, path, store);
+    corpus(&store[0..n]).report(rt, path)
 }
 
-fn main() {
-    sizes().report(b"sizes");
-    refused().report(b"refused");
-    let mut store = [0u8; 600000];
-    file(b"onestack1.bin", &mut store);
-    file(b"onestack2.bin", &mut store);
-    file(b"onestack3.bin", &mut store);
-    file(b"onestack4.bin", &mut store);
+fn main(rt: HostRuntime) -> io::Result<()> {
+    sizes().report(&rt, b"sizes")?;
+    refused().report(&rt, b"refused")?;
+    let mut store = vec![in rt.alloc(); 0u8; 600000]?;
+    file(&rt, b"onestack1.bin", &mut store)?;
+    file(&rt, b"onestack2.bin", &mut store)?;
+    file(&rt, b"onestack3.bin", &mut store)?;
+    file(&rt, b"onestack4.bin", &mut store)
 }

@@ -146,3 +146,4 @@ pub stay_span : (top : Top) (f : Top) (c : Control) → Known top f → c.shared
     → (4 ≤ dest (stay f c)) × (dest (stay f c) < stays_end top)
 stay_span top Any c any h = omega (arith, stays_range top)
 stay_span (Named s) (Named r) c named h = omega arith
+stay_span Any (Named r) c x3 h = elim x3 [ ]

@@ -1,4 +1,6 @@
 // Least step counts of one thread. They are held in sixteen bits: none is above 4,097, so two of them and a step add up without wrapping.
+#![tactic(auto)]
+
 ghost use Rattle.std.specs.Prelude.{◌≡◌, ◌+◌, ◌≤◌};
 ghost use Rattle.summary.specs.Cells.{controls_of, stays_of, stays_end, shape_of, ShapeFits};
 ghost use Rattle.summary.specs.Kinds.{push_of};
@@ -22,7 +24,7 @@ pub const UNREACHED: u16 = 4097;
 
 // Which edges of a rule a pass relaxes: those within one turn; those with turn ends inside one of its parts, in the part of the
 // table that starts at a cell; or those with one turn end inside each of its parts, the first of them in a lane.
-#[derive(Drop)]
+#[derive(Clone, Copy)]
 pub enum Kind {
     Plain,
     Lanes(usize),
@@ -30,7 +32,7 @@ pub enum Kind {
 }
 
 // What a table has: so many controls, destinations of staying up to `stays`, and `dests` destinations in all.
-#[derive(Drop)]
+#[derive(Clone, Copy)]
 pub struct Shape {
     pub controls: usize,
     pub stays: usize,
@@ -38,7 +40,7 @@ pub struct Shape {
 }
 
 // A push from control `from` with `symbol` on top to control `to`, where `a` then lies on `b`.
-#[derive(Drop)]
+#[derive(Clone, Copy)]
 pub struct Push {
     pub from: usize,
     pub symbol: usize,

@@ -1,13 +1,16 @@
 // Closes tables of threads and compares their counts with known ones: those of the doubling thread and of one with held rules one by
 // one, and the sum of all cells of a dense thread with a stored one. No top is named.
+#![tactic(auto)]
+
 ghost use Rattle.std.specs.Prelude.{◌≡◌, ◌+◌, ◌<◌, ◌≤◌, length};
 ghost use Rattle.model.specs.declared.Top.TheVariants.{Any};
 ghost use Rattle.model.specs.Fits.{ThreadFits};
 ghost use Rattle.summary.specs.Cells.{controls_of, size, second, First, Solved};
 
-use libc::STDOUT_FILENO;
 use model::{Thread, Top};
 use record::Answer;
+use std::io;
+use std::rt::Files;
 use summary::cells::{SIZE, second_of, size_of};
 use summary::{CAP, UNREACHED, controls_of};
 use vectors::Tally;
@@ -171,19 +174,18 @@ fn dense(t: &mut [u16], bytes: &[u8]) -> u64
 }
 
 // The thread of the file, and the sum of its cells.
-fn file(t: &mut [u16], store: &mut [u8])
+fn file(rt: &(impl Files + Print + Eprint), t: &mut [u16], store: &mut [u8]) -> io::Result<()>
     requires { length t.old ≡ size 8 }
 {
-    let n = vectors::load(b"dense.bin", store);
-    io::write_all(STDOUT_FILENO, b"dense.bin: sum ");
-    io::print_decimal(STDOUT_FILENO, dense(t, &store[0..n]));
-    io::write_all(STDOUT_FILENO, b"\n");
+    let n = vectors::load(rt, b"dense.bin", store);
+    let sum = dense(t, &store[0..n]);
+    println!(rt; "dense.bin: sum {sum}")
 }
 
-fn main() {
+fn main(rt: HostRuntime) -> io::Result<()> {
     let mut t = [0u16; SIZE];
-    doubling(&mut t).report(b"doubling thread");
-    held(&mut t).report(b"held rules");
+    doubling(&mut t).report(&rt, b"doubling thread")?;
+    held(&mut t).report(&rt, b"held rules")?;
     let mut store = [0u8; 700];
-    file(&mut t, &mut store);
+    file(&rt, &mut t, &mut store)
 }

@@ -1,4 +1,6 @@
 // Text put into a store, part after part: words, numbers in base ten, columns.
+#![tactic(auto)]
+
 ghost use Rattle.std.specs.Prelude.{◌≡◌, ◌+◌, ◌≤◌, length};
 ghost use Rattle.model.specs.Walk.{owner_of};
 ghost use Rattle.text.specs.Text.{decimal, line, blanks, right_aligned, letter};

@@ -4,8 +4,7 @@ use mathlib.Core.Path.{◌≡◌, refl}
 use Prim.Native.Nat.{ℕ, ◌+◌, ◌-◌, ◌≤◌}
 use native.Mathlib.Omega.{arith}
 use lib.ListN.{length, take, drop, length-drop}
-use base.Fml.{GName}
-use denote.Ref.{Bor, MutBor}
+use denote.Bor.{Bor}
 use Rattle.record.proofs.Fronts.{to_end}
 use Rattle.tray.specs.Answer.{LastPart}
 use Rattle.tray.specs.Tray.{tray_of, rest_of}
@@ -15,9 +14,9 @@ abbrev Told : Bor (List ℕ) → Bor (List ℕ) → Type 0
 Told tray r = (r.now ≡ rest_of (tray_of tray.now)) × LastPart tray r
 
 -- The part from n on meets it where the bytes from n on are the rest.
-pub rest_told : (tray : MutBor (List ℕ)) (name : GName) {n : ℕ} → n ≤ length tray.now → drop n tray.now ≡ rest_of (tray_of tray.now)
-    → Told tray (record { ref_ptr = (tray.ref_ptr.0, n + tray.ref_ptr.1); ghost_name = name; now = take (length tray.now - n) (drop n tray.now) })
-rest_told tray name {n} h e =
+pub rest_told : (tray : Bor (List ℕ)) {n : ℕ} → n ≤ length tray.now → drop n tray.now ≡ rest_of (tray_of tray.now)
+    → Told tray (record { ref_ptr = (tray.ref_ptr.0, n + tray.ref_ptr.1); now = take (length tray.now - n) (drop n tray.now) })
+rest_told tray {n} h e =
     let part = to_end tray.now n h in
     let size : length (drop n tray.now) ≡ length tray.now - n = length-drop n tray.now in
     rw part (e, record { block = refl; end = omega arith })

@@ -1,4 +1,6 @@
 // Trays: records one after another. Reading at the front gives the first model, and the rest as the caller's own bytes.
+#![tactic(auto)]
+
 ghost use Rattle.std.specs.Prelude.{◌≡◌};
 ghost use Rattle.tray.specs.Answer.{first_reading_of, LastPart, Stands};
 ghost use Rattle.tray.specs.Tray.{tray_of, rest_of};
@@ -7,7 +9,7 @@ use model::Model;
 use record::Taken;
 
 // What stands at the front of a tray: no record, one that is accepted and has so many bytes, or one that is refused.
-#[derive(Drop)]
+#[derive(Clone, Copy)]
 pub enum FirstRecord {
     None,
     Accepted(usize),
@@ -15,7 +17,7 @@ pub enum FirstRecord {
 }
 
 // The model of a tray's first record; all places are zero where none is accepted.
-#[derive(Drop)]
+#[derive(Clone, Copy)]
 pub struct FirstReading {
     pub answer: FirstRecord,
     pub model: Model,

@@ -1,6 +1,10 @@
 // Reads trays made by hand and a file of random ones, and compares: the answer, the rest, and the record that is taken.
+#![tactic(auto)]
+
 use model::Model;
 use record::Written;
+use std::io;
+use std::rt::Files;
 use tray::FirstRecord;
 use vectors::Tally;
 
@@ -128,13 +132,13 @@ fn left(s: &[u8], at: usize) -> usize {
 }
 
 // The cases of the file, which the store has room for.
-fn file(store: &mut [u8]) {
-    let n = vectors::load(b"trays.bin", store);
-    corpus(&store[0..n]).report(b"trays.bin");
+fn file(rt: &(impl Files + Print + Eprint), store: &mut [u8]) -> io::Result<()> {
+    let n = vectors::load(rt, b"trays.bin", store);
+    corpus(&store[0..n]).report(rt, b"trays.bin")
 }
 
-fn main() {
-    by_hand().report(b"by hand");
+fn main(rt: HostRuntime) -> io::Result<()> {
+    by_hand().report(&rt, b"by hand")?;
     let mut store = [0u8; 210000];
-    file(&mut store);
+    file(&rt, &mut store)
 }

@@ -1,4 +1,6 @@
 // The walk of a schedule, step by step: the counters by value, the stacks in two lent buffers.
+#![tactic(auto)]
+
 ghost use Rattle.std.specs.Prelude.{not, ◌||◌, ◌≡◌, ◌+◌, ◌/◌, ◌<◌, ◌≤◌, eqb, length};
 ghost use Rattle.model.specs.Rules.{put};
 ghost use Rattle.model.specs.Schedules.{steps_of};
@@ -10,7 +12,7 @@ use model::{Model, Right, Thread, Top};
 
 // Where a walk is: the turn of its last step and whether that step's rule is held, the shared state, and how many symbols each stack
 // holds. The stacks themselves are in two buffers, bottom first.
-#[derive(Drop)]
+#[derive(Clone, Copy)]
 pub struct Walk {
     pub turn: usize,
     pub held: bool,
@@ -20,7 +22,7 @@ pub struct Walk {
 }
 
 // What a step comes to: the walk after it, or the number of its refusal.
-#[derive(Drop)]
+#[derive(Clone, Copy)]
 pub enum Stepped {
     Made(Walk),
     Refused(u8),
@@ -28,7 +30,7 @@ pub enum Stepped {
 
 // What a step makes of the shared state and its thread's stack: whether its rule is held, the state, and how many symbols the stack
 // then holds.
-#[derive(Drop)]
+#[derive(Clone, Copy)]
 pub enum Fired {
     Done(bool, u8, usize),
     Stuck,
@@ -54,6 +56,7 @@ pub fn start(m: Model, a: &mut [u8], b: &mut [u8]) -> Walk
 }
 
 // The steps of a schedule, in order, up to the first that is refused; its last is not held (12).
+#[tactic(auto, using(crate::proofs::Schedules::walk_stops, crate::proofs::Schedules::walk_held, crate::proofs::Schedules::walk_made))]
 pub fn steps(start: Walk, m: Model, schedule: &[u8], a: &mut [u8], b: &mut [u8]) -> Stepped
     requires fact_1 { Counted m }
     requires fact_2 { Room (length schedule.now / 2) start a.old b.old }

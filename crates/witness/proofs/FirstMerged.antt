@@ -49,9 +49,9 @@ first_before (y ∷ ys) (Before.now {s} {t} h) a b =
           rw (lt-leb s.turn y.turn (omega arith), lt-leb t.turn y.turn (omega arith))
           (Before.later (first_before ys (Before.now h) a b.1))
     ]
-first_before (y ∷ ys) (Before.later {s} r) a b =
+first_before (y ∷ ys) (Before.later {s} {ss} {ts} r) a b =
     elim (dec_le s.turn y.turn) [
-      | yes l ↦ rw (le-leb _ _ l) (Before.later (first_before (y ∷ ys) r a.1 b))
+      | yes l ↦ rw (le-leb _ _ l) (Before.later (first_before {xs = ss} {ts = ts} (y ∷ ys) r a.1 b))
       | no l ↦ rw (lt-leb s.turn y.turn (omega arith)) (Before.later (first_before ys (Before.later r) a b.1))
     ]
 

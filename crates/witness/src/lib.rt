@@ -1,4 +1,6 @@
 // The first of the shortest schedules along a line: each thread's first run along it, then both merged by turn.
+#![tactic(auto)]
+
 ghost use Rattle.std.specs.Prelude.{true, ◌≡◌, suc, ◌+◌, ◌*◌, ◌^◌, ◌≤◌, ◌<◌, length};
 ghost use Rattle.model.specs.First.{First};
 ghost use Rattle.model.specs.Fits.{Fits};

@@ -1,4 +1,6 @@
 // The bytes of a record, put one after another into a buffer that has room for them.
+#![tactic(auto)]
+
 ghost use Rattle.std.specs.Prelude.{cond, [], ◌∷◌, ◌++◌, ◌≡◌, ◌+◌, ◌≤◌, eqb, length, take, drop};
 ghost use Rattle.writer.specs.Put.{Put, Halves, Small, SmallModel};
 ghost use Rattle.writer.specs.Writer.{field_of, symbols_of, symbol_bits, rule_bytes, rules_of, map_of, head_bytes, record_of};

@@ -1,0 +1,18 @@
+-- `joined` meets its contract: its tests are the definition's.
+use native.Mathlib.Omega.{arith}
+use borrow.Author.Tests.{le-leb, lt-leb}
+use Rattle.summary.specs.Edges.{best_of}
+use Rattle.summary.specs.Table.{cap}
+use Rattle.costs.proofs.line.joined.Goals as goal
+
+pub returns-then-x-gt-CAP : goal.returns-then-x-gt-CAP
+unfolding best_of
+returns-then-x-gt-CAP c = rw (lt-leb _ cap c.if-x-gt-CAP.true)
+
+pub returns-then-y-gt-CAP : goal.returns-then-y-gt-CAP
+unfolding best_of
+returns-then-y-gt-CAP c = rw (le-leb _ cap c.if-x-gt-CAP.false, lt-leb _ cap c.if-y-gt-CAP.true)
+
+pub returns : goal.returns
+unfolding best_of
+returns c = rw (le-leb _ cap c.if-x-gt-CAP.false, le-leb _ cap c.if-y-gt-CAP.false) (omega arith)

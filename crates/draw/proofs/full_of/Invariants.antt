@@ -1,0 +1,10 @@
+-- `full_of` meets its contract. The invariant: the lines of up to `passed` states are behind, and `rest` of the place is left.
+use Prim.Native.Nat.{◌*◌, ◌-◌}
+use Rattle.draw.proofs.Full.{Reached}
+use Rattle.draw.proofs.full_of.Given as goal
+
+abbrev pub invariant-loop-power : goal.invariant-loop-power
+invariant-loop-power l = Reached l.g l.k l.p l.rest l.passed l.power
+
+abbrev pub decreases-loop-power : goal.decreases-loop-power
+decreases-loop-power l = 2 * l.k - l.passed

@@ -1,0 +1,15 @@
+use Rattle.report.proofs.Listing.{listed_start, listed_room, listed_next, listed_end}
+use Rattle.report.proofs.lines.put_steps.Goals as goal
+
+pub loop-i-init : goal.loop-i-init
+loop-i-init c = listed_start _ _ _ c.requires
+
+pub put_step-next-requires : goal.put_step-next-requires
+put_step-next-requires c = listed_room c.loop-i.invariant c.loop-i-test.true
+
+pub loop-i-preserved : goal.loop-i-preserved
+loop-i-preserved c =
+    listed_next c.loop-i.invariant c.loop-i-test.true c.put_step-next.ensures
+
+pub returns : goal.returns
+returns c = listed_end c.loop-i.invariant c.loop-i-test.false

@@ -1,0 +1,11 @@
+-- `fill_place` meets its contract. The invariant: the rows of the symbols below this one are filled.
+use Prim.Native.Nat.{◌+◌, ◌-◌, ◌*◌, ◌≤◌}
+use Rattle.run.specs.Exits.{row_of}
+use Rattle.run.specs.Filled.{FilledTo}
+use Rattle.run.proofs.exits.fill_place.Given as goal
+
+abbrev pub invariant-loop-symbol : goal.invariant-loop-symbol
+invariant-loop-symbol l = (l.symbol ≤ 17) × FilledTo l.table l.plan l.n l.dest (row_of (8 * l.j + l.p) l.symbol) l.exits
+
+abbrev pub decreases-loop-symbol : goal.decreases-loop-symbol
+decreases-loop-symbol l = 17 - l.symbol

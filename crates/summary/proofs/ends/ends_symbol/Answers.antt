@@ -1,0 +1,28 @@
+use native.Mathlib.Omega.{arith}
+use Rattle.summary.proofs.Capped.{held, rows_in}
+use Rattle.summary.proofs.Loops.{starts, turns, ends}
+use Rattle.summary.proofs.Fitting.{ends_row}
+use Rattle.summary.proofs.ends.ends_symbol.Goals as goal
+
+pub loop-d-init : goal.loop-d-init
+loop-d-init c = starts _ _ _ _
+
+pub row-changes-requires-clause-fact_1 : goal.row-changes-requires-clause-fact_1
+row-changes-requires-clause-fact_1 c =
+    let relaxed = c.loop-d.invariant.relaxed in let fits =
+    ends_row relaxed c.requires.fact_1.0 c.requires.fact_1.1 c.requires.fact_1.2 c.requires.fact_1.3 c.requires.fact_1.4 c.loop-d-test.true c.first_of-first.ensures c.lane_cell.ensures c.plain_cell.ensures in fits.0
+
+pub row-changes-requires-clause-fact_2 : goal.row-changes-requires-clause-fact_2
+row-changes-requires-clause-fact_2 c =
+    let relaxed = c.loop-d.invariant.relaxed in let fits =
+    ends_row relaxed c.requires.fact_1.0 c.requires.fact_1.1 c.requires.fact_1.2 c.requires.fact_1.3 c.requires.fact_1.4 c.loop-d-test.true c.first_of-first.ensures c.lane_cell.ensures c.plain_cell.ensures in rows_in (held relaxed c.requires.fact_2) fits.1
+
+pub loop-d-preserved : goal.loop-d-preserved
+loop-d-preserved c =
+    turns c.loop-d.invariant c.loop-d-test.true
+    (rw (c.lane_cell.ensures, c.plain_cell.ensures) at c.row-changes.ensures.0) c.row-changes.ensures.1
+
+pub returns : goal.returns
+returns c =
+    let done = ends c.loop-d.invariant c.loop-d-test.false in
+    (rw c.first_of-first.ensures at done.0, omega (arith, done.1))
