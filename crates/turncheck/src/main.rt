@@ -1,10 +1,13 @@
 // Reads one record from standard input, and prints the verdict on its model or the refusal.
-ghost use Rattle.turncheck.specs.Within.{Within};
+#![tactic(auto)]
 
-use libc::{STDERR_FILENO, STDIN_FILENO, STDOUT_FILENO};
+ghost use Rattle.turncheck.specs.Within.{Within, Piece, Whole};
+
+use std::io;
+use std::io::Read;
 
 // What reading comes to: how many bytes stand at the front of the buffer, or that the input cannot be read.
-#[derive(Drop)]
+#[derive(Clone, Copy)]
 enum Input {
     Bytes(usize),
     Failed,
@@ -12,30 +15,29 @@ enum Input {
 
 // 671 bytes of the input decide the answer: the longest record has 670, and reading stops at the first fault (a law of `record`,
 // `decided`).
-fn main() {
+fn main(rt: HostRuntime) -> io::Result<()> {
     let mut bytes = [0u8; 671];
-    match read_all(&mut bytes) {
-        Input::Bytes(n) => print_report(&bytes[..n]),
-        Input::Failed => {
-            io::write_all(STDERR_FILENO, b"turncheck: standard input cannot be read\n");
-        }
+    match read_all(&mut rt.stdin(), &mut bytes) {
+        Input::Bytes(n) => print_report(&rt, &bytes[..n]),
+        Input::Failed => eprintln!(rt; "turncheck: standard input cannot be read"),
     }
 }
 
 // Prints what is to be said of the bytes of a record.
-fn print_report(bytes: &[u8]) {
+fn print_report(rt: &impl Print, bytes: &[u8]) -> io::Result<()> {
     let mut text = [0u8; 28686];
     let size = report::report(bytes, &mut text);
-    io::write_all(STDOUT_FILENO, &text[0..size]);
+    rt.write_all(&text[0..size])
 }
 
 // The input up to its end, or as much of it as the buffer holds, in however many pieces it comes.
-fn read_all(buffer: &mut [u8]) -> Input
-    ensures { Within result buffer.new }
+fn read_all<R: Read>(input: &mut R, buffer: &mut [u8]) -> Input
+    ensures within { Within result buffer.new }
+    ensures whole { Whole (R.remaining input.old) (R.remaining input.new) result buffer.new }
 {
     let mut size = 0;
     while size < buffer.len() {
-        let n = match read_piece(&mut buffer[size..]) {
+        let n = match read_piece(input, &mut buffer[size..]) {
             Input::Bytes(n) => n,
             Input::Failed => return Input::Failed,
         };
@@ -48,12 +50,12 @@ fn read_all(buffer: &mut [u8]) -> Input
 }
 
 // The next piece of the input; no bytes where it ends.
-fn read_piece(buffer: &mut [u8]) -> Input
-    ensures { Within result buffer.new }
+fn read_piece<R: Read>(input: &mut R, buffer: &mut [u8]) -> Input
+    ensures within { Within result buffer.new }
+    ensures piece { Piece (R.remaining input.old) (R.remaining input.new) result buffer.new }
 {
-    let got = libc::read(STDIN_FILENO, buffer);
-    if got < 0 {
-        return Input::Failed;
+    match input.read(buffer) {
+        Ok(n) => Input::Bytes(n),
+        Err(_) => Input::Failed,
     }
-    Input::Bytes(io::count(got, buffer))
 }

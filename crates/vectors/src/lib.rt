@@ -1,7 +1,11 @@
 // What the programs that compare with stored cases share: a tally, a report, and parts of a file of cases.
+#![tactic(auto)]
+
 ghost use Rattle.std.specs.Prelude.{◌≤◌, ◌<◌, ◌+◌, length};
 
-use libc::STDOUT_FILENO;
+use std::io::{ErrorKind, Read};
+use std::rt::Files;
+use std::{fs, io};
 
 // The records of document 01's models: One, Two, and Two at K=1.
 pub const ONE: [u8; 8] = *b"\x4B\x02\x01\x01\x01\x01\x00\x01";
@@ -13,21 +17,21 @@ pub const TWO_ONCE: [u8; 19] =
     *b"\xCA\x01\x03\x03\x06\x00\x00\x00\x01\x00\x01\x01\x20\x03\x01\x03\x10\x02\x00";
 
 // How many answers were compared, and how many of them differ from what is stored.
-#[derive(Drop)]
+#[derive(Clone, Copy)]
 pub struct Tally {
     pub compared: u64,
     pub differ: u64,
 }
 
 // One case of a file: whether it agrees with what is stored, and the place behind it.
-#[derive(Drop)]
+#[derive(Clone, Copy)]
 pub struct Case {
     pub agrees: bool,
     pub next: usize,
 }
 
 // A part of a file: from start up to, not including, end.
-#[derive(Drop)]
+#[derive(Clone, Copy)]
 pub struct Span {
     pub start: usize,
     pub end: usize,
@@ -54,13 +58,11 @@ impl Tally {
     }
 
     // A line such as `records.bin: 2200 compared, 0 differ`.
-    pub fn report(self, name: &[u8]) {
-        io::write_all(STDOUT_FILENO, name);
-        io::write_all(STDOUT_FILENO, b": ");
-        io::print_decimal(STDOUT_FILENO, self.compared);
-        io::write_all(STDOUT_FILENO, b" compared, ");
-        io::print_decimal(STDOUT_FILENO, self.differ);
-        io::write_all(STDOUT_FILENO, b" differ\n");
+    pub fn report(self, rt: &impl Print, name: &[u8]) -> io::Result<()> {
+        let compared = self.compared;
+        let differ = self.differ;
+        rt.write_all(name)?;
+        println!(rt; ": {compared} compared, {differ} differ")
     }
 }
 
@@ -174,16 +176,38 @@ pub fn filled(s: &[u8], b: u8) -> bool {
     true
 }
 
-// Reads a file of the program's folder into a store, and answers how many bytes it has.
-pub fn load(path: &[u8], store: &mut [u8]) -> usize
+// Reads a file of the program's folder into a store, and answers how many bytes it has. One that cannot be opened is named on standard
+// error, and has none.
+pub fn load(rt: &(impl Files + Eprint), path: &[u8], store: &mut [u8]) -> usize
     ensures { result ≤ length store.new }
 {
-    let fd = os::open_read(path);
-    if fd < 0 {
-        os::fail(path);
-        return 0;
+    match open(rt, path) {
+        Ok(mut file) => fill(&mut file, store),
+        Err(error) => {
+            let _ = eprintln!(rt; "{}: {error}", path.escape_ascii());
+            0
+        }
     }
-    let n = io::read_full(fd, store);
-    libc::close(fd);
-    n
+}
+
+// A path is text.
+fn open<R: Files>(rt: &R, path: &[u8]) -> io::Result<R::File> {
+    match str::from_utf8(path) {
+        Ok(text) => fs::open(rt, text),
+        Err(_) => Err(io::Error::from(ErrorKind::InvalidInput)),
+    }
+}
+
+// Reads until the store is full, the input ends or a read fails, and answers how many bytes stand at the front of the store.
+fn fill(input: &mut impl Read, store: &mut [u8]) -> usize
+    ensures { result ≤ length store.new }
+{
+    let mut size = 0;
+    while size < store.len() {
+        match input.read(&mut store[size..]) {
+            Ok(0) | Err(_) => return size,
+            Ok(n) => size += n,
+        }
+    }
+    size
 }
