@@ -1,7 +1,8 @@
 #!/usr/bin/env python3
 """Brings the names of this repository's own definitions and lemmas to today's spelling: words in snake case.
 
-usage: python3 tools/respell.py [LIBRARY]      once, at the top, right after the kit's port.py; LIBRARY is the kit's library (/opt/rattle/rattle)
+usage: python3 tools/respell.py [LIBRARY]      once, at the top, right after the kit's port.py; LIBRARY is the kit's library, by default the one beside the
+page that `rt doc` names
 
 A name in lower camel case (`faultOf`) becomes snake case (`fault_of`), and so does one with dashes between words (`valid-fits`), in definitions,
 lemmas, fields, local names, contracts and must-fail edits. A name that begins with a capital or a Greek letter keeps its dashes, names of goals
@@ -12,9 +13,10 @@ import collections
 import glob
 import os
 import re
+import subprocess
 import sys
 
-LIBRARY = sys.argv[1] if len(sys.argv) > 1 and sys.argv[1] != "--list" else "/opt/rattle/rattle"
+LIBRARY = sys.argv[1] if len(sys.argv) > 1 and sys.argv[1] != "--list" else os.path.join(os.path.dirname(subprocess.run(["rt", "doc"], capture_output=True, text=True, check=True).stdout.strip()), "rattle")
 TOKEN = re.compile(r"[^\s(){}\[\],;.:\"@`]+")
 DECLARES = re.compile(r"^\s*(?:(?:abbrev|unfoldable|pub|opaque|record|data|let|in|where) )*([^\s:(){}∷λ;=.,]+) (?::(?!:)|\(|\{|=(?!=))(.*)$")
 INNER = re.compile(r"(?:\blet|λ|,) \(?([^\s:(){}∷λ;=.,]+)(?: :| =|\.)")
