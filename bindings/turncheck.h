@@ -26,7 +26,8 @@
  * no state of its own, so calls may run side by side. A call takes up to 800 KB of stack, by measurement, and no more for
  * deeper models: give it 1 MB or more.
  *
- * Link target/staticlib/libffi.a, which `rt staticlib ffi` writes. */
+ * Link crates/ffi/out/libffi.a, which `rt lib` in the folder crates/ffi writes: for x86-64 processors with SSE4.2 and POPCNT, or for any with
+ * `rt lib --cpu x86-64`. */
 #ifndef TURNCHECK_H
 #define TURNCHECK_H
 
