@@ -1,78 +1,67 @@
--- The tests of the sizes, in their order, and what is answered.
-use mathlib.Core.List.{List}
+-- The tests of the sizes, and what is answered.
+use mathlib.Core.List.{List, [], ◌++◌}
 use mathlib.Core.Path.{◌≡◌, refl, sym}
-use Prim.Native.Nat.{ℕ, ◌≤◌, ◌<◌}
+use Prim.Native.Nat.{ℕ, zero, suc, ◌+◌, ◌≤◌, ◌<◌}
 use native.Mathlib.Omega.{arith}
-use borrow.Author.Tests.{le-leb, lt-leb}
-use lib.ListN.{length, take}
-use lib.Seq.{sets, length-take-le}
+use lib.ListN.{length, take, drop}
+use lib.Seq.{length-take-le, sets-eq}
+use Rattle.std.proofs.lemmas.List.Edits.{sets}
+use Rattle.std.specs.Prelude.{Result, Ok, Err}
+use Rattle.model.specs.declared.refusal.Refusal.{Refusal}
+use Rattle.model.specs.Refusals.{number_of}
 use Rattle.model.specs.Results.{first_of}
 use Rattle.model.specs.Schedules.{most_bytes}
-use Rattle.batch.specs.declared.Answer.TheVariants as answer
+use Rattle.model.proofs.Ranges.{checks}
+use Rattle.model.proofs.Refusals.{number_some}
+use Rattle.tray.specs.Whole.{RefusedBy}
 use Rattle.batch.specs.declared.Outcome.{Outcome}
 use Rattle.batch.specs.declared.together.Batch.{Batch}
-use Rattle.batch.specs.Batch.{most_records, size_refusal, Refuses, sizes, Batched, Listed}
+use Rattle.batch.specs.Batch.{most_records, size_refusal, bad, sizes, Batched, Listed}
 use Rattle.batch.specs.Counts.{Holds}
-use Rattle.batch.specs.Each.{EachJudged, Few, Nothing}
+use Rattle.batch.specs.Each.{EachJudged, JudgesAll}
 
--- What `judge_all` says of the outcomes, for a list of so many places.
-abbrev pub All : ℕ → List ℕ → Batch → List ℕ → List ℕ → Type 0
-All places tray b old new = Batched tray places b.answer (take b.count b.outcomes) old new
-
--- What a call with a list of so many places promises of its outcomes and of the store.
-abbrev pub Told : List ℕ → ℕ → Batch → List ℕ → List ℕ → Type 0
-Told tray places b old new = Few places b × All places tray b old new
-
--- A refusal has no outcome, and the store is as it was.
-pub refuses : {tray : List ℕ} (store : List ℕ) {places n : ℕ} {b : Batch} → Nothing n b → Refuses tray places (length store) n
-    → Told tray places b store store
-refuses store {places} {b = b} none r =
-    let few : Few places b = record { within = omega (arith, none.none); most = omega (arith, none.none); full = none.full } in
-    (few, rw (none.refused, none.none) (refl, r, refl))
-
--- The tests of the sizes.
-too_many : (n places store : ℕ) → most_records < n → size_refusal n places store ≡ 19
+-- Sizes that are not refused: at most 32 records, places for them, and a store with room for every schedule.
+pub fitting : (n places store : ℕ) → size_refusal n places store ≡ 0 → (n ≤ most_records) × (n ≤ places) × (most_bytes ≤ store)
 unfolding size_refusal first_of
-too_many n places store h = rw (lt-leb n most_records h) refl
+fitting n places store e = let z = simp checks at e in (z.0, z.1.0, z.1.1.0)
 
-too_narrow : (n places store : ℕ) → n ≤ most_records → places < n → size_refusal n places store ≡ 20
-unfolding size_refusal first_of
-too_narrow n places store h k = rw (le-leb n most_records h, lt-leb n places k) refl
+-- A bad record is refused ..
+pub refuses_bad : {tray store : List ℕ} {places : ℕ} (r : Refusal) → RefusedBy tray (number_of r) → Batched tray places (Err r) [] store store
+refuses_bad r h = (refl, bad h, refl)
 
-too_short : (n places store : ℕ) → n ≤ most_records → n ≤ places → store < most_bytes → size_refusal n places store ≡ 7
-unfolding size_refusal first_of
-too_short n places store h k l = rw (le-leb n most_records h, le-leb n places k, lt-leb most_bytes store l) refl
-
-enough : (n places store : ℕ) → n ≤ most_records → n ≤ places → most_bytes ≤ store → size_refusal n places store ≡ 0
-unfolding size_refusal first_of
-enough n places store h k l = rw (le-leb n most_records h, le-leb n places k, le-leb most_bytes store l) refl
-
-module _ {tray : List ℕ} (store : List ℕ) {n : ℕ} (places : ℕ) (h : Holds tray n) where
-  -- A refusal of the sizes: more than 32 records, ..
-  pub refuses_19 : {b : Batch} → Nothing 19 b → most_records < n → Told tray places b store store
-  refuses_19 none l = refuses store none (sizes h.read (rw h.many (too_many n places (length store) l)) (omega arith))
-
-  -- .. a list with too few places, ..
-  pub refuses_20 : {b : Batch} → Nothing 20 b → n ≤ most_records → places < n → Told tray places b store store
-  refuses_20 none k l = refuses store none (sizes h.read (rw h.many (too_narrow n places (length store) k l)) (omega arith))
-
-  -- .. and a store that is too short.
-  pub refuses_7 : {b : Batch} → Nothing 7 b → n ≤ most_records → n ≤ places → length store < most_bytes → Told tray places b store store
-  refuses_7 none k l j = refuses store none (sizes h.read (rw h.many (too_short n places (length store) k l j)) (omega arith))
+-- .. and so are sizes.
+pub refuses_sizes : {tray store : List ℕ} {n places : ℕ} (r : Refusal) → Holds tray n → number_of r ≡ size_refusal n places (length store)
+    → Batched tray places (Err r) [] store store
+refuses_sizes r h e = (refl, sizes h.read (rw h.many (sym e)) (some (number_of r) (number_some r)), refl)
+  where
+    some : (k : ℕ) → (k ≡ 0 → ⊥) → 0 < k
+    some zero z = absurd (z refl)
+    some (suc k) z = omega arith
 
 -- All records are judged.
-pub judges : {tray old new : List ℕ} {n places : ℕ} {list : List Outcome} → EachJudged tray n list old new → n ≤ most_records → n ≤ places
-    → most_bytes ≤ length old → Told tray places (record { answer = answer.Judged n; count = n; outcomes = list }) old new
-judges {old = old} {n = n} {places} {list} e h k l =
-    let full = e.places in (
-      record { within = k; most = h; full = full },
+pub judges : {tray old new : List ℕ} {n places : ℕ} {list : List Outcome} → EachJudged tray n list old new
+    → size_refusal n places (length old) ≡ 0 → JudgesAll tray places (Ok (record { count = n; outcomes = list })) old new
+judges {old = old} {n = n} {places} {list} e h =
+    let f = fitting n places (length old) h in (
+      f.1,
+      f.0,
+      e.places,
       (
-        sym (length-take-le n list (omega arith)),
-        record { models = e.models; read = e.read; sizes = rw e.many (enough n places (length old) h k l); judged = e.judged },
+        sym (length-take-le n list (omega (arith, e.places, f.0))),
+        record { models = e.models; read = e.read; sizes = rw e.many h; judged = e.judged },
       ),
     )
 
--- Stored from the front of the list on, they are listed.
-pub listed : {tray : List ℕ} {list list' : List Outcome} {old new : List ℕ} (b : Batch) → All (length list) tray b old new
-    → list' ≡ sets list 0 (take b.count b.outcomes) → Listed tray b.answer list list' old new
-listed b all e = record { outcomes = take b.count b.outcomes; batched = all; filled = e }
+-- Stored from the front of the list on, outcomes are listed, whatever the answer is ..
+pub listed : {tray : List ℕ} {list list' : List Outcome} {old new : List ℕ} {r : Result ℕ Refusal} (os : List Outcome)
+    → Batched tray (length list) r os old new → list' ≡ sets list 0 os → Listed tray r list list' old new
+listed os h e = record { outcomes = os; batched = h; filled = e }
+
+-- .. and so are those that were copied there.
+pub copied_listed : {tray old new : List ℕ} {list copied : List Outcome} (b : Batch) → JudgesAll tray (length list) (Ok b) old new
+    → copied ≡ take b.count b.outcomes → Listed tray (Ok b.count) list (copied ++ drop b.count list) old new
+copied_listed {list = list} b j e =
+    let xs = take b.count b.outcomes in
+    let size : length xs ≡ b.count = length-take-le b.count b.outcomes (omega (arith, j.1, j.2)) in
+    let place : 0 + length xs ≡ b.count = omega (arith, size) in
+    listed xs j.3 (rw (e, sets-eq xs list 0 (omega (arith, size, j.0)), place) refl)

@@ -16,8 +16,9 @@ use Rattle.model.specs.Walk.{Step}
 use Rattle.model.proofs.Firsts.{first_once}
 use Rattle.model.proofs.Verdicts.{one_verdict}
 use Rattle.tray.proofs.Once.{one_reading, one_refusal, one_of_both}
-use Rattle.batch.specs.declared.Answer.{Answer}
-use Rattle.batch.specs.declared.Answer.TheVariants as answer
+use Rattle.std.specs.Prelude.{Result, Ok, Err}
+use Rattle.model.specs.declared.refusal.Refusal.{Refusal}
+use Rattle.model.proofs.Refusals.{number_names}
 use Rattle.batch.specs.declared.Outcome.{Outcome}
 use Rattle.batch.specs.Batch.{size_refusal, Refuses, bad, sizes, AllJudged, Schedules, end, skipped, written}
 use Rattle.batch.specs.Batch.{JudgedFrom, Together, Batched, Listed}
@@ -73,33 +74,33 @@ one_answer {old = old} {places = places} (sizes r e h) t =
     let same = ap (λ ms. size_refusal (length ms) places (length old)) (one_reading r t.read) in omega (arith, e, same, t.sizes)
 
 -- What is answered is determined, with the outcomes and the store.
-pub batched_same : (tray : List ℕ) (places : ℕ) (r s : Answer) (os os' : List Outcome) (old new new' : List ℕ)
+pub batched_same : (tray : List ℕ) (places : ℕ) (r s : Result ℕ Refusal) (os os' : List Outcome) (old new new' : List ℕ)
     → Batched tray places r os old new → Batched tray places s os' old new' → (r ≡ s) × (os ≡ os') × (new ≡ new')
-batched_same tray places (answer.Judged n) (answer.Judged k) os os' old new new' p q =
+batched_same tray places (Ok n) (Ok k) os os' old new new' p q =
     let same = judged_same p.1.judged (rw (one_reading q.1.read p.1.read) at q.1.judged) in
-    (ap answer.Judged (p.0 ∙ (ap length same.0 ∙ sym q.0)), same.0, same.1)
-batched_same tray places (answer.Judged n) (answer.Refused k) os os' old new new' p q = absurd (one_answer q.1 p.1)
-batched_same tray places (answer.Refused n) (answer.Judged k) os os' old new new' p q = absurd (one_answer p.1 q.1)
-batched_same tray places (answer.Refused n) (answer.Refused k) os os' old new new' p q =
-    (ap answer.Refused (refusal_same p.1 q.1), p.0 ∙ sym q.0, p.2 ∙ sym q.2)
+    (ap Ok (p.0 ∙ (ap length same.0 ∙ sym q.0)), same.0, same.1)
+batched_same tray places (Ok n) (Err s) os os' old new new' p q = absurd (one_answer q.1 p.1)
+batched_same tray places (Err r) (Ok k) os os' old new new' p q = absurd (one_answer p.1 q.1)
+batched_same tray places (Err r) (Err s) os os' old new new' p q =
+    (ap Err (number_names r s (refusal_same p.1 q.1)), p.0 ∙ sym q.0, p.2 ∙ sym q.2)
 
 -- Each contract is `Post`, of the arguments, the answer and the arguments at exit. Two results that meet it are the same: it determines ..
 
 -- .. the answer, every byte of the list and every byte of the store.
-pub bytes_same : {tray : List ℕ} {r s : Answer} {list list' list'' old new new' : List ℕ} → ListedBytes tray r list list' old new
+pub bytes_same : {tray : List ℕ} {r s : Result ℕ Refusal} {list list' list'' old new new' : List ℕ} → ListedBytes tray r list list' old new
     → ListedBytes tray s list list'' old new' → (r ≡ s) × (list' ≡ list'') × (new ≡ new')
 bytes_same {tray} {r} {s} {list} {old = old} {new} {new'} p q =
     let same = batched_same tray (length list / 6) r s p.outcomes q.outcomes old new new' p.batched q.batched in
     (same.0, p.filled ∙ (ap (λ os. sets list 0 (outcome_bytes os)) same.1 ∙ sym q.filled), same.2)
 
-pub to_bytes_determined : (κs : Lfts 3) (list : MutBor (List ℕ)) (tray : Bor (List ℕ)) (store : MutBor (List ℕ)) (r s : Answer) (l l' w w' : List ℕ)
+pub to_bytes_determined : (κs : Lfts 3) (list : MutBor (List ℕ)) (tray : Bor (List ℕ)) (store : MutBor (List ℕ)) (r s : Result ℕ Refusal) (l l' w w' : List ℕ)
     → to-bytes.Post κs (list, (tray, (store, tt))) r (at_last list l, (tray, (at_last store w, tt)))
     → to-bytes.Post κs (list, (tray, (store, tt))) s (at_last list l', (tray, (at_last store w', tt)))
     → (r ≡ s) × (l ≡ l') × (w ≡ w')
 to_bytes_determined κs list tray store r s l l' w w' p q = bytes_same p q
 
 -- The same with a list of structs: the answer, every place of the list and every byte of the store.
-pub to_list_determined : (list : MutBor (List Outcome)) (tray : Bor (List ℕ)) (store : MutBor (List ℕ)) (r s : Answer) (l l' : List Outcome) (w w' : List ℕ)
+pub to_list_determined : (list : MutBor (List Outcome)) (tray : Bor (List ℕ)) (store : MutBor (List ℕ)) (r s : Result ℕ Refusal) (l l' : List Outcome) (w w' : List ℕ)
     → Listed tray.now r list.now l store.now w → Listed tray.now s list.now l' store.now w' → (r ≡ s) × (l ≡ l') × (w ≡ w')
 to_list_determined list tray store r s l l' w w' p q =
     let same = batched_same tray.now (length list.now) r s p.outcomes q.outcomes store.now w w' p.batched q.batched in

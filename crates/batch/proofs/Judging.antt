@@ -3,32 +3,31 @@
 use mathlib.Core.Bool.{true, false, cond}
 use mathlib.Core.List.{List, [], ◌∷◌, ◌++◌, append_assoc, append-nil}
 use mathlib.Core.Path.{◌≡◌, refl, sym, ap, ◌∙◌}
-use Prim.Native.Nat.{ℕ, ◌+◌, ◌*◌, ◌-◌, ◌≤◌, ◌<◌}
+use Prim.Native.Nat.{ℕ, ◌+◌, ◌*◌, ◌≤◌, ◌<◌}
 use native.Mathlib.Decide.{dec_lt}
 use native.Mathlib.Nat.{add-zero}
 use native.Mathlib.Numerals.{add-one}
 use native.Mathlib.Omega.{arith}
-use lib.ListN.{length, get_or, take, drop, set, length-set, length-drop, drop_of_length-le}
-use lib.Seq.{sets, length-sets, take-suc-set, drop-cons, drop-drop}
+use lib.ListN.{length, get_or, take, drop, set, length-set, drop_of_length-le}
+use lib.Seq.{sets, length-sets, take-suc-set, drop-cons}
 use Rattle.model.specs.declared.Depths.{Depths}
 use Rattle.model.specs.declared.Model.{Model}
+use Rattle.std.specs.Prelude.{None, Some}
+use Rattle.model.specs.Results.{accepted, refused}
 use Rattle.model.specs.Schedules.{most_steps, bytes_of, Stored}
 use Rattle.model.specs.Verdict.{clear, long, found, Judged}
 use Rattle.model.specs.Walk.{Step}
 use Rattle.model.specs.Zero.{zero_model}
 use Rattle.model.proofs.Stores.{sets_append, length_bytes, bytes_append, stored_front}
 use Rattle.judge.specs.Answer.{Witness}
-use Rattle.record.proofs.Fronts.{to_end}
-use Rattle.tray.specs.declared.FirstReading.{FirstReading}
-use Rattle.tray.specs.declared.FirstRecord.TheVariants as front
-use Rattle.tray.specs.Answer.{first_reading_of, Stands}
+use Rattle.model.proofs.Results.{apart}
+use Rattle.record.specs.declared.Front.{Front}
+use Rattle.tray.specs.Answer.{first_reading_of, AtFront}
 use Rattle.tray.specs.Tray.{first, tray_of, rest_of}
 use Rattle.tray.specs.Whole.{ReadAs, next}
-use Rattle.writer.specs.Writer.{record_of}
 use Rattle.batch.specs.declared.Outcome.{Outcome}
 use Rattle.batch.specs.Batch.{most_records, Schedules, end, skipped, written, JudgedFrom}
-use Rattle.batch.specs.Counts.{Holds}
-use Rattle.batch.specs.Each.{JudgedAlone, length_of, EachJudged}
+use Rattle.batch.specs.Each.{JudgedAlone, EachJudged}
 use Rattle.batch.specs.Outcomes.{without, outcome_of, used_by, outcomes_from}
 use Rattle.batch.proofs.Counting.{Taken, taken, part_from}
 use Rattle.batch.proofs.Placing.{fits, fits_not, added, added_none, stays_low}
@@ -103,87 +102,76 @@ one_by_one {used} {m} {o} {ms} {os} {x} {y} {z} p q =
           q.stored ∙ rw (p.stored, place, bytes_append) (sets_append x (2 * used) (bytes_of p.steps) (bytes_of q.steps));
     }
 
--- A front that is read as a model, and the reading of it.
-pub record Front (s : List ℕ) (m : Model) (ms : List Model) (r : FirstReading) : Type 0 where
-  pub model : r.model ≡ m
-  pub taken : Taken s m (length_of r.answer)
-  pub rest : ReadAs (drop (length_of r.answer) s) ms
+-- A tray that is read as a model and others has an accepted front: it is that model, and the others are read behind it.
+pub record FrontRead (s : List ℕ) (m : Model) (ms : List Model) (f : Front) : Type 0 where
+  pub model : f.model ≡ m
+  pub taken : Taken s m f.size
+  pub rest : ReadAs (part_from s f.size) ms
 
-front_read : (s : List ℕ) {m : Model} {ms : List Model} (r : FirstReading) → ReadAs s (m ∷ ms) → r ≡ first_reading_of (tray_of s) → Stands r s
-    → Front s m ms r
-front_read s {m} {ms} r (next {rest = rest} e later) f stands =
-    let k = length_of r.answer in
-    let told : r ≡ first_reading_of (first m rest) = f ∙ ap first_reading_of e in
-    let answer : r.answer ≡ front.Accepted (length (record_of m)) = ap (λ (x : FirstReading). x.answer) told in
-    let model : r.model ≡ m = ap (λ (x : FirstReading). x.model) told in
-    let many : k ≡ length (record_of m) = ap length_of answer in
-    let t : Taken s m k = rw (model, ← many) at (taken s r f stands answer) in
-    let left : rest ≡ drop k s = ap rest_of (sym e ∙ t.given) in
+front_read : {s : List ℕ} {m : Model} {ms : List Model} (f : Front) → ReadAs s (m ∷ ms) → accepted (Some f) ≡ first_reading_of (tray_of s)
+    → AtFront f.size s f.model → FrontRead s m ms f
+front_read {s} {m} {ms} f (next {rest = rest} e later) given at =
+    let told : accepted (Some f) ≡ first_reading_of (first m rest) = given ∙ ap first_reading_of e in
+    let model : f.model ≡ m = cc in
+    let t : Taken s m f.size = rw model at (taken s f given at) in
+    let left : rest ≡ part_from s f.size = ap rest_of (sym e ∙ t.given) in
     record { model = model; taken = t; rest = rw left at later }
 
--- The records below i are judged, up to a place of the tray and to a place of the store.
-pub record Upto (tray : List ℕ) (count at used i : ℕ) (list : List Outcome) (old new : List ℕ) : Type 0 where
+-- It is not without one, nor refused.
+some_front : {s : List ℕ} {m : Model} {ms : List Model} {P : Type 0} → ReadAs s (m ∷ ms) → accepted None ≡ first_reading_of (tray_of s) → P
+some_front (next e later) given = let told = given ∙ ap first_reading_of e in let z : ◌≡◌ {A = ℕ} 0 1 = cc in absurd (omega arith)
+
+good_front : {s : List ℕ} {m : Model} {ms : List Model} {n : ℕ} {P : Type 0} → ReadAs s (m ∷ ms) → refused n ≡ first_reading_of (tray_of s) → P
+good_front (next e later) given = apart (given ∙ ap first_reading_of e)
+
+-- The records below i are judged, up to a rest of the tray and to a place of the store.
+pub record Upto (tray : List ℕ) (count : ℕ) (rest : List ℕ) (used i : ℕ) (list : List Outcome) (old new : List ℕ) : Type 0 where
   pub few : count ≤ most_records
   pub low : i ≤ count
-  pub within : at ≤ length tray
   pub most : used ≤ most_steps
   pub places : length list ≡ most_records
   pub size : length new ≡ length old
   pub models : List Model
   pub read : ReadAs tray models
   pub many : length models ≡ count
-  pub left : ReadAs (drop at tray) (drop i models)
+  pub left : ReadAs rest (drop i models)
   pub so_far : (os : List Outcome) (last : List ℕ) → JudgedFrom used (drop i models) os new last
       → JudgedFrom 0 models (take i list ++ os) old last
 
--- At first none is ..
-pub upto_none : {tray : List ℕ} {count : ℕ} {list : List Outcome} (store : List ℕ) → Holds tray count → count ≤ most_records
-    → length list ≡ most_records → Upto tray count 0 0 0 list store store
-upto_none store h few full =
-    record {
-      few = few;
-      low = omega arith;
-      within = omega arith;
-      most = omega arith;
-      places = full;
-      size = refl;
-      models = h.models;
-      read = h.read;
-      many = h.many;
-      left = h.read;
-      so_far = λ os last j. j;
-    }
+module _ {tray rest : List ℕ} {count used i : ℕ} {list : List Outcome} {old new : List ℕ} (u : Upto tray count rest used i list old new) where
+  -- While one is left, the rest has a record at its front ..
+  ahead : i < count → ReadAs rest (get_or u.models i zero_model ∷ drop (i + 1) u.models)
+  ahead h = let more = drop-cons u.models i zero_model (omega (arith, u.many)) in rw (more, ← add-one i) at u.left
 
-module _ {tray : List ℕ} {count at used i : ℕ} {list : List Outcome} {old new : List ℕ} (u : Upto tray count at used i list old new) where
-  -- .. then the record at the place is read ..
-  pub next-front : i < count → (r : FirstReading) → r ≡ first_reading_of (tray_of (part_from tray at)) → Stands r (part_from tray at)
-      → Front (drop at tray) (get_or u.models i zero_model) (drop (i + 1) u.models) r
-  next-front h r e stands =
-      let more = drop-cons u.models i zero_model (omega (arith, u.many)) in
-      let same = to_end tray at u.within in
-      front_read (drop at tray) r (rw (more, ← add-one i) at u.left) (rw same at e) (rw same at stands)
+  pub upto_some : {P : Type 0} → i < count → accepted None ≡ first_reading_of (tray_of rest) → P
+  upto_some h e = some_front (ahead h) e
 
-  -- .. and judged ..
-  pub upto_next : i < count → (r : FirstReading) → r ≡ first_reading_of (tray_of (part_from tray at)) → Stands r (part_from tray at)
-      → {o : Outcome} {store : List ℕ} → JudgedAlone used r.model o new store
-      → Upto tray count (at + length_of r.answer) (used_by used o) (i + 1) (set list i o) old store
-  upto_next h r e stands {o} {store} j =
-      let f = next-front h r e stands in
+  pub upto_good : {n : ℕ} {P : Type 0} → i < count → refused n ≡ first_reading_of (tray_of rest) → P
+  upto_good h e = good_front (ahead h) e
+
+  pub upto_front : i < count → (f : Front) → accepted (Some f) ≡ first_reading_of (tray_of rest) → AtFront f.size rest f.model
+      → FrontRead rest (get_or u.models i zero_model) (drop (i + 1) u.models) f
+  upto_front h f e at = front_read f (ahead h) e at
+
+  -- .. which is judged ..
+  pub upto_next : i < count → (f : Front) → accepted (Some f) ≡ first_reading_of (tray_of rest) → AtFront f.size rest f.model
+      → {o : Outcome} {store : List ℕ} → JudgedAlone used f.model o new store
+      → Upto tray count (part_from rest f.size) (used_by used o) (i + 1) (set list i o) old store
+  upto_next h f e at {o} {store} j =
+      let r = upto_front h f e at in
       let more = drop-cons u.models i zero_model (omega (arith, u.many)) in
-      let left : length (drop at tray) ≡ length tray - at = length-drop at tray in
       record {
         few = u.few;
         low = omega arith;
-        within = omega (arith, f.taken.within, u.within);
         most = rw j.outcome (stays_low used j.verdict u.most);
         places = length-set list i o ∙ u.places;
         size = rw j.stored (length-sets new (2 * used) (bytes_of j.steps)) ∙ u.size;
         models = u.models;
         read = u.read;
         many = u.many;
-        left = rw (drop-drop (length_of r.answer) at tray) at f.rest;
+        left = r.rest;
         so_far = λ os last q.
-            let all = u.so_far (o ∷ os) last (rw (more, ← add-one i) (one_by_one (rw f.model at j) q)) in
+            let all = u.so_far (o ∷ os) last (rw (more, ← add-one i) (one_by_one (rw r.model at j) q)) in
             rw (add-one i, take-suc-set list i o (omega (arith, u.places, u.few)), append_assoc) all;
       }
 

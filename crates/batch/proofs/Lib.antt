@@ -7,4 +7,3 @@ pub mod Listing
 pub mod Places
 pub mod Placing
 pub mod Ranges
-pub mod Walk

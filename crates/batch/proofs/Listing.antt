@@ -1,12 +1,16 @@
 -- The outcomes of a batch, put into a list one after another: as structs, or as bytes.
+use mathlib.Core.Bool.{Bool, true, false}
 use mathlib.Core.List.{List, [], ◌∷◌, ◌++◌}
 use mathlib.Core.Path.{◌≡◌, refl}
-use Prim.Native.Nat.{ℕ, zero, suc, ◌+◌, ◌<◌}
+use Prim.Native.Nat.{ℕ, zero, suc, ◌+◌, ◌*◌, ◌/◌, ◌%◌, ◌^◌, ◌<◌}
 use native.Mathlib.Nat.{add-zero, zero-add, add-suc, suc-add}
 use native.Mathlib.Numerals.{add-one}
 use native.Mathlib.Omega.{arith}
 use lib.ListN.{length, get_or, set, take}
 use lib.Seq.{sets}
+use mir.Val.{bool_byte}
+use Rattle.std.specs.Int.{w16, to_le_bytes}
+use Rattle.model.specs.Bits.{one_if}
 use Rattle.batch.specs.declared.Outcome.{Outcome}
 use Rattle.batch.specs.Bytes.{outcome_bytes}
 
@@ -19,6 +23,20 @@ one_more i l d h = rw (add-one i) (go i l h)
     go i [] h = absurd (omega arith)
     go zero (o ∷ l) h = refl
     go (suc i) (o ∷ l) h = rw (go i l (omega arith)) refl
+
+-- Each has six bytes.
+pub length_outcomes : (os : List Outcome) → length (outcome_bytes os) ≡ 6 * length os
+length_outcomes [] = refl
+length_outcomes (o ∷ os) = omega (arith, length_outcomes os)
+
+-- A flag as a byte is 1 or 0.
+pub flag_byte : (b : Bool) → bool_byte b ≡ one_if b
+flag_byte true = refl
+flag_byte false = refl
+
+-- A number as two bytes.
+pub two_bytes : (n : ℕ) → n < 2 ^ 16 → to_le_bytes w16 n ≡ n % 256 ∷ n / 256 ∷ []
+two_bytes n h = let high : n / 256 % 256 ≡ n / 256 = omega arith in rw high
 
 -- One outcome more is stored behind the others.
 sets_from : (os list : List Outcome) (k i : ℕ) (d : Outcome) → i < length os

@@ -10,7 +10,7 @@ use lib.ListN.{length, take, drop, length-drop, drop_of_length-le}
 use lib.Seq.{sets, sets-eq, length-take-le, drop-drop}
 use Rattle.model.specs.Schedules.{most_steps}
 use Rattle.model.specs.Verdict.{Verdict, clear, long, found}
-use Rattle.record.proofs.Fronts.{to_end}
+use Rattle.tray.proofs.Parts.{to_end}
 use Rattle.batch.specs.declared.Outcome.{Outcome}
 use Rattle.batch.specs.Outcomes.{without, written_at, place_of, outcome_of, used_by}
 

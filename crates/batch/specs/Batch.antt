@@ -1,15 +1,15 @@
 -- A tray judged together: what is answered, and what stands in the store of schedules.
-use Rattle.std.specs.Prelude.{true, false, List, [], ◌∷◌, ◌++◌, ◌≡◌, ℕ, ◌*◌, ◌<◌, leb, length}
+use Rattle.std.specs.Prelude.{Result, Ok, Err, true, false, List, [], ◌∷◌, ◌++◌, ◌≡◌, ℕ, ◌*◌, ◌<◌, leb, length}
 use Rattle.std.proofs.lemmas.List.Edits.{sets}
 use Rattle.model.specs.declared.Model.{Model}
+use Rattle.model.specs.declared.refusal.Refusal.{Refusal}
 use Rattle.model.specs.First.{LeastSchedule}
+use Rattle.model.specs.Refusals.{number_of}
 use Rattle.model.specs.Results.{refuse, first_of}
 use Rattle.model.specs.Schedules.{most_bytes, bytes_of}
 use Rattle.model.specs.Verdict.{Verdict, Judged}
 use Rattle.model.specs.Walk.{Step}
 use Rattle.tray.specs.Whole.{ReadAs, RefusedBy}
-use Rattle.batch.specs.declared.Answer.{Answer}
-use Rattle.batch.specs.declared.Answer.TheVariants as answer
 use Rattle.batch.specs.declared.Outcome.{Outcome}
 use Rattle.batch.specs.Outcomes.{outcomes_from}
 
@@ -65,12 +65,12 @@ pub record Together (tray : List ℕ) (places : ℕ) (os : List Outcome) (old ne
 
 -- What is answered, for a list of so many places, with these outcomes: the number of records; or a refusal, with no outcome and the store as
 -- it was.
-abbrev pub Batched : List ℕ → ℕ → Answer → List Outcome → List ℕ → List ℕ → Type 0
-Batched tray places (answer.Judged n) os old new = (n ≡ length os) × Together tray places os old new
-Batched tray places (answer.Refused n) os old new = (os ≡ []) × Refuses tray places (length old) n × (new ≡ old)
+abbrev pub Batched : List ℕ → ℕ → Result ℕ Refusal → List Outcome → List ℕ → List ℕ → Type 0
+Batched tray places (Ok n) os old new = (n ≡ length os) × Together tray places os old new
+Batched tray places (Err r) os old new = (os ≡ []) × Refuses tray places (length old) (number_of r) × (new ≡ old)
 
 -- The call's list holds the outcomes in its first places; all others are as they were.
-pub record Listed (tray : List ℕ) (r : Answer) (list list' : List Outcome) (old new : List ℕ) : Type 0 where
+pub record Listed (tray : List ℕ) (r : Result ℕ Refusal) (list list' : List Outcome) (old new : List ℕ) : Type 0 where
   pub outcomes : List Outcome
   pub batched : Batched tray (length list) r outcomes old new
   pub filled : list' ≡ sets list 0 outcomes

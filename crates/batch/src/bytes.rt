@@ -1,53 +1,33 @@
 // Outcomes as bytes, six for each.
-ghost use Rattle.std.specs.Prelude.{[], ◌∷◌, ◌≡◌, ◌+◌, ◌*◌, ◌/◌, ◌%◌, ◌≤◌, length, take};
+ghost use Rattle.std.specs.Prelude.{[], ◌∷◌, ◌≡◌, ◌*◌, ◌≤◌, length, take};
 ghost use Rattle.std.proofs.lemmas.List.Edits.{sets};
-ghost use Rattle.model.specs.Bits.{one_if};
-ghost use Rattle.writer.specs.Put.{Put};
 ghost use Rattle.batch.specs.Batch.{most_records};
 ghost use Rattle.batch.specs.Bytes.{outcome_bytes};
+ghost use Rattle.writer.specs.Output.{Appends, HasRoom};
 
 use crate::Outcome;
 use crate::together::Batch;
-use writer::put_byte;
+use writer::Output;
 
 // Puts all outcomes at the front of a list.
 pub fn put_all(all: Batch, list: &mut [u8])
     requires { (all.count ≤ most_records) × (length all.outcomes ≡ most_records) × (6 * all.count ≤ length list.old) }
     ensures { list.new ≡ sets list.old 0 (outcome_bytes (take all.count all.outcomes)) }
 {
-    let count = all.count;
-    let outcomes = all.outcomes;
-    let mut at = 0;
-    let mut i = 0;
-    while i < count {
-        at = put(list, at, outcomes[i]);
-        i += 1;
+    let mut out = Output::new(list);
+    for outcome in &all.outcomes[..all.count] {
+        put(&mut out, *outcome);
     }
 }
 
-// Puts an outcome at a place, and answers the place behind it.
-fn put(list: &mut [u8], at: usize, o: Outcome) -> usize
-    requires { at + 6 ≤ length list.old }
-    ensures { Put list.old list.new at result (outcome_bytes (o ∷ [])) }
+// Puts an outcome, the low byte of a number first.
+#[tactic(auto, using(writer::proofs::Outputs::appended))]
+fn put(out: &mut Output, o: Outcome)
+    requires { HasRoom out.old (outcome_bytes (o ∷ [])) }
+    ensures { Appends out.old out.new (outcome_bytes (o ∷ [])) }
 {
-    let mut next = put_byte(list, at, o.verdict);
-    next = put_number(list, next, o.steps);
-    next = put_byte(list, next, flag(o.written));
-    put_number(list, next, o.place)
-}
-
-// A number in two bytes, the low one first.
-fn put_number(list: &mut [u8], at: usize, n: u16) -> usize
-    requires { at + 2 ≤ length list.old }
-    ensures { Put list.old list.new at result (n % 256 ∷ n / 256 ∷ []) }
-{
-    let next = put_byte(list, at, (n % 256) as u8);
-    put_byte(list, next, (n / 256) as u8)
-}
-
-// 1 or 0.
-fn flag(on: bool) -> u8
-    ensures { result ≡ one_if on }
-{
-    if on { 1 } else { 0 }
+    out.byte(o.verdict);
+    out.bytes(&o.steps.to_le_bytes());
+    out.byte(u8::from(o.written));
+    out.bytes(&o.place.to_le_bytes());
 }

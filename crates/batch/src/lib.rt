@@ -10,10 +10,12 @@ mod one;
 mod together;
 mod whole;
 
-use together::{judge_all, outcome_at};
+use model::Refusal;
+use together::judge_all;
 
 // What a record comes to: its verdict (0 Clear, 1 Long, 2 Found), the steps of a shortest run where it is Found, whether its schedule was
-// written, and the place of that schedule's first step in the store.
+// written, and the place of that schedule's first step in the store. The fields are those of document 02, which `outcomes_from` names: the verdict a
+// number, the place 0 where nothing is written.
 #[repr(C)]
 #[derive(Clone, Copy)]
 pub struct Outcome {
@@ -23,32 +25,21 @@ pub struct Outcome {
     pub place: u16,
 }
 
-// How many records were judged, or a refusal's number.
-#[derive(Clone, Copy)]
-pub enum Answer {
-    Judged(usize),
-    Refused(u8),
-}
-
-// Judges the records of a tray. Fills the first places of the list with their outcomes, and the front of the store with the schedules that
-// fit, in their order.
-pub fn to_list(list: &mut [Outcome], tray: &[u8], store: &mut [u8]) -> Answer
+// Judges the records of a tray, and answers how many there are. Fills the first places of the list with their outcomes, and the front of
+// the store with the schedules that fit, in their order.
+pub fn to_list(list: &mut [Outcome], tray: &[u8], store: &mut [u8]) -> Result<usize, Refusal>
     ensures { Listed tray.now result list.old list.new store.old store.new }
 {
-    let all = judge_all(list.len(), tray, store);
-    let mut i = 0;
-    while i < all.count {
-        list[i] = outcome_at(all, i);
-        i += 1;
-    }
-    all.answer
+    let all = judge_all(list.len(), tray, store)?;
+    list[..all.count].copy_from_slice(&all.outcomes[..all.count]);
+    Ok(all.count)
 }
 
 // The same with a list of bytes, six for each outcome.
-pub fn to_bytes(list: &mut [u8], tray: &[u8], store: &mut [u8]) -> Answer
+pub fn to_bytes(list: &mut [u8], tray: &[u8], store: &mut [u8]) -> Result<usize, Refusal>
     ensures { ListedBytes tray.now result list.old list.new store.old store.new }
 {
-    let all = judge_all(list.len() / 6, tray, store);
+    let all = judge_all(list.len() / 6, tray, store)?;
     bytes::put_all(all, list);
-    all.answer
+    Ok(all.count)
 }

@@ -8,24 +8,25 @@ ghost use Rattle.batch.specs.Each.{JudgedAlone};
 ghost use Rattle.batch.specs.Outcomes.{outcome_of, place_of, without};
 
 use crate::Outcome;
-use judge::Judgement;
+use judge::Verdict;
 use model::{MOST_BYTES, Model};
 use writer::copy;
 
 // Judges a model, and writes its schedule where it fits behind the steps that are written.
 pub fn one(m: Model, used: usize, store: &mut [u8]) -> Outcome
-    requires fact_1 { Valid m }
-    requires fact_2 { (used ≤ most_steps) × (most_bytes ≤ length store.old) }
+    requires valid { Valid m }
+    requires written { used ≤ most_steps }
+    requires room { most_bytes ≤ length store.old }
     ensures { JudgedAlone used m result store.old store.new }
 {
-    let mut lines = [0u8; 683];
+    let mut lines = [0u8; judge::MOST_TABLE];
     let mut schedule = [0u8; MOST_BYTES];
     match judge::judge(m, &mut lines, &mut schedule) {
-        Judgement::Clear => unwritten(0, 0),
-        Judgement::Long => unwritten(1, 0),
-        Judgement::Found(n, _) => found(n as usize, used, &schedule, store),
-        // No valid model is refused where the stores have room.
-        Judgement::Refused(n) => unwritten(n, 0),
+        Ok(Verdict::Clear) => unwritten(0, 0),
+        Ok(Verdict::Long) => unwritten(1, 0),
+        Ok(Verdict::Found(n, _)) => found(n as usize, used, &schedule, store),
+        // no valid model is refused where the stores have room
+        Err(_) => unreachable!(),
     }
 }
 
@@ -61,7 +62,8 @@ fn found(steps: usize, used: usize, schedule: &[u8], store: &mut [u8]) -> Outcom
     }
 }
 
-// The place of a schedule that is written behind so many steps.
+// The place of a schedule that is written behind so many steps: 0 for one of no steps, which stands nowhere.
+#[tactic(auto, using(crate::proofs::Placing::placed))]
 fn place(used: usize, steps: usize) -> u16
     requires { used ≤ most_steps }
     ensures { result ≡ place_of used steps }

@@ -1,31 +1,18 @@
 // A tray read to its end, before any of its records is judged.
 ghost use Rattle.batch.specs.Counts.{Counts};
 
-use tray::FirstRecord;
+use model::Refusal;
 
-// How many records a tray has, or the number by which the first bad one is refused.
-#[derive(Clone, Copy)]
-pub enum Counted {
-    Records(usize),
-    Refused(u8),
-}
-
-// Reads a tray record by record.
-pub fn count(tray: &[u8]) -> Counted
+// How many records a tray has, or the refusal of the first bad one.
+pub fn count(tray: &[u8]) -> Result<usize, Refusal>
     ensures { Counts tray.now result }
 {
-    let mut at = 0;
+    let mut rest = tray;
     let mut n = 0;
-    while at < tray.len() {
-        let found = tray::first(&tray[at..]);
-        let answer = found.answer;
-        let size = match answer {
-            FirstRecord::Accepted(k) => k,
-            FirstRecord::Refused(k) => return Counted::Refused(k),
-            FirstRecord::None => return Counted::Records(n),
-        };
-        at += size;
+    // not `tray::rest`, which would read each record once more
+    while let Some(found) = tray::first(rest)? {
+        rest = &rest[found.size..];
         n += 1;
     }
-    Counted::Records(n)
+    Ok(n)
 }

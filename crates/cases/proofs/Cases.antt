@@ -14,7 +14,7 @@ use Rattle.model.specs.Bits.{all_zero, Bytes}
 use Rattle.model.specs.Depths.{depth_from}
 use Rattle.model.specs.Lines.{powers, digits}
 use Rattle.model.specs.Order.{right_key, key_of, above}
-use Rattle.model.specs.Results.{refused, accepted, first_of}
+use Rattle.model.specs.Results.{Result, refused, accepted, first_of}
 use Rattle.model.specs.Rules.{applies}
 use Rattle.model.specs.Schedules.{steps_of, most_steps}
 use Rattle.model.specs.Valid.{Valid, symbol_fault, top_fault, right_fault, range_fault, fields_fault, head_fault, rule_fault, rules_fault, thread_fault}
@@ -26,13 +26,11 @@ use Rattle.model.proofs.Table.{every, at}
 use Rattle.model.proofs.Tests.{passed, both, equal, tests}
 use Rattle.model.proofs.Stores.{length_bytes}
 use Rattle.logs.specs.declared.Followed.{Followed}
-use Rattle.logs.specs.declared.Followed.TheVariants as following
 use Rattle.logs.specs.Log.{earliest, byte_from, bytes_from, followed_of}
 use Rattle.logs.proofs.Fewest.{fewest}
 use Rattle.record.specs.Reader.{Read, read_of, parse_front, parse_head, parse_byte, parse_ranged, parse_field, parse_right, parse_rule, parse_rule_list, parse_rules}
 use Rattle.record.specs.Reader.{parse_target, parse_top, parse_marks, parse_extras, parse_second}
 use Rattle.replay.specs.declared.Replayed.{Replayed}
-use Rattle.replay.specs.declared.Replayed.TheVariants as replayed
 use Rattle.replay.specs.Replay.{replay_of, size_fits}
 use Rattle.replay.proofs.Accepts.{accepts}
 use Rattle.cases.specs.Cases.{cases}
@@ -61,25 +59,19 @@ lines_right m set ungiven = true
 lines_right m set (given store) = drawn m set store
 
 -- Replay accepts, with the target as the last state and these depths.
-abbrev reaches : Shared → Depths → Replayed → Bool
-reaches target d (replayed.Accepted shared reached depths) =
-    eqb shared.0 target.0 && reached && eqb depths.a d.a && eqb depths.b d.b
-reaches target d (replayed.Refused n) = false
-
--- Replay refuses by this number.
-abbrev declines : ℕ → Replayed → Bool
-declines n (replayed.Accepted shared reached depths) = false
-declines n (replayed.Refused k) = eqb k n
+abbrev reaches : Shared → Depths → Result Replayed → Bool
+reaches target d (accepted r) = eqb r.shared.0 target.0 && r.reached && eqb r.depths.a d.a && eqb r.depths.b d.b
+reaches target d (refused n) = false
 
 -- A log is accepted, with this state and these rounds ..
-abbrev places : ℕ → ℕ → Followed → Bool
-places q n (following.Accepted shared rounds) = eqb shared.0 q && eqb rounds n
-places q n (following.Refused k) = false
+abbrev places : ℕ → ℕ → Result Followed → Bool
+places q n (accepted f) = eqb f.shared.0 q && eqb f.rounds n
+places q n (refused k) = false
 
--- .. or is refused by this number.
-abbrev rejects : ℕ → Followed → Bool
-rejects n (following.Accepted shared rounds) = false
-rejects n (following.Refused k) = eqb k n
+-- .. or it is refused by this number, and so a schedule is.
+abbrev declines : {A : Type 0} → ℕ → Result A → Bool
+declines n (accepted a) = false
+declines n (refused k) = eqb k n
 
 -- The test of an answer for a model that was read.
 judges : Model → Answer → Bool
@@ -91,7 +83,7 @@ judges m (Found n a b schedule t) =
     reaches m.target (record { a = a; b = b }) (replay_of m schedule)
 judges m (Declined schedule n) = declines n (replay_of m schedule)
 judges m (Logged log q n) = small log && places q n (followed_of m log)
-judges m (Unlogged log n) = rejects n (followed_of m log)
+judges m (Unlogged log n) = declines n (followed_of m log)
 
 -- The test of an answer for what reading came to.
 comes : Read Model → Answer → Bool
@@ -115,30 +107,26 @@ lines_right_lem m limit set c ungiven h = tt
 lines_right_lem m limit set c (given store) h = drawn_lines m limit set c store h
 
 -- The replay.
-reached_target : (target : Shared) (d : Depths) (r : Replayed) → T (reaches target d r) → r ≡ replayed.Accepted target true d
-reached_target target d (replayed.Accepted shared reached depths) h =
+reached_target : (target : Shared) (d : Depths) (r : Result Replayed) → T (reaches target d r)
+    → r ≡ accepted (record { shared = target; reached = true; depths = d })
+reached_target target d (accepted r) h =
     let w = simp tests at h in
-    let same : shared ≡ target = ap {B = Shared} (λ n. record { 0 = n }) w.0.0.0 in
-    let deep : depths ≡ d = rw (w.0.1, w.1) in
-    rw (same, passed reached w.0.0.1, deep)
-reached_target target d (replayed.Refused n) h = absurd h
+    let same : r.shared ≡ target = ap {B = Shared} (λ n. record { 0 = n }) w.0.0.0 in
+    let deep : r.depths ≡ d = rw (w.0.1, w.1) in
+    ap accepted (rw (same, passed r.reached w.0.0.1, deep))
+reached_target target d (refused n) h = absurd h
 
--- A schedule that is refused.
-declined : (n : ℕ) (r : Replayed) → T (declines n r) → r ≡ replayed.Refused n
-declined n (replayed.Accepted shared reached depths) h = absurd h
-declined n (replayed.Refused k) h = ap replayed.Refused ((equal k n).0 h)
-
--- A log that is accepted, and one that is refused.
-placed : (q n : ℕ) (f : Followed) → T (places q n f) → f ≡ following.Accepted (record { 0 = q }) n
-placed q n (following.Accepted shared rounds) h =
+-- A log that is accepted, and a log or a schedule that is refused.
+placed : (q n : ℕ) (f : Result Followed) → T (places q n f) → f ≡ accepted (record { shared = record { 0 = q }; rounds = n })
+placed q n (accepted f) h =
     let w = simp tests at h in
-    let same : shared ≡ record { 0 = q } = ap {B = Shared} (λ k. record { 0 = k }) w.0 in
-    rw (same, w.1)
-placed q n (following.Refused k) h = absurd h
+    let same : f.shared ≡ record { 0 = q } = ap {B = Shared} (λ k. record { 0 = k }) w.0 in
+    ap accepted (rw (same, w.1))
+placed q n (refused k) h = absurd h
 
-rejected : (n : ℕ) (f : Followed) → T (rejects n f) → f ≡ following.Refused n
-rejected n (following.Accepted shared rounds) h = absurd h
-rejected n (following.Refused k) h = ap following.Refused ((equal k n).0 h)
+declined : {A : Type 0} (n : ℕ) (r : Result A) → T (declines n r) → r ≡ refused n
+declined n (accepted a) h = absurd h
+declined n (refused k) h = ap refused ((equal k n).0 h)
 
 -- The schedule: what replay accepts is one, with two bytes a step.
 scheduled : (m : Model) (n : ℕ) (d : Depths) (schedule : List ℕ) → length schedule ≡ 2 * n
@@ -178,7 +166,7 @@ judged bytes m e v (Logged log q n) h =
     let w = (both (small log) (places q n (followed_of m log))).0 h in
     let same = placed q n (followed_of m log) w.1 in
     record { model = m; read = e; valid = v; holds = ((fewest m log (record { 0 = q }) n (small_bytes log w.0)).0 same, same) }
-judged bytes m e v (Unlogged log n) h = record { model = m; read = e; valid = v; holds = rejected n (followed_of m log) h }
+judged bytes m e v (Unlogged log n) h = record { model = m; read = e; valid = v; holds = declined n (followed_of m log) h }
 
 -- The record.
 come : (bytes : List ℕ) (r : Read Model) → read_of bytes ≡ r → (a : Answer) → T (comes r a) → ClaimsOf bytes a

@@ -7,8 +7,8 @@ use Prim.Native.Nat.{ℕ, zero, suc}
 use lib.Dec.{T, eqb}
 use Rattle.model.specs.declared.Right.{Right}
 use Rattle.model.specs.declared.Right.TheVariants.{Remove, Swap, Push}
-use Rattle.model.specs.declared.Top.{Top}
-use Rattle.model.specs.declared.Top.TheVariants.{Any, Named}
+use Rattle.model.specs.Tops.{Top}
+use Rattle.std.specs.Prelude.{None, Some}
 use Rattle.model.specs.Rules.{put}
 use Rattle.model.specs.Walk.{has_top}
 use Rattle.model.proofs.Tests.{passed, both, equal}
@@ -29,19 +29,19 @@ Matches (top γ s) (x ∷ w) = (γ ≡ x) × Matches s w
 
 -- A stack of that shape may have the top that is asked for ..
 abbrev pub may_have : Top → Shape → Bool
-may_have Any s = true
-may_have (Named a) empty = false
-may_have (Named a) unknown = true
-may_have (Named a) (top γ s) = eqb γ a.0
+may_have None s = true
+may_have (Some a) empty = false
+may_have (Some a) unknown = true
+may_have (Some a) (top γ s) = eqb γ a.0
 
 -- .. and where one has it, its shape says so.
 pub may_have_lem : (t : Top) (s : Shape) (w : List ℕ) → Matches s w → T (has_top t w) → T (may_have t s)
-may_have_lem Any s w o h = tt
-may_have_lem (Named a) empty [] o h = h
-may_have_lem (Named a) empty (x ∷ w) o h = absurd o
-may_have_lem (Named a) unknown w o h = tt
-may_have_lem (Named a) (top γ s) [] o h = absurd o
-may_have_lem (Named a) (top γ s) (x ∷ w) o h = rw o.0 h
+may_have_lem None s w o h = tt
+may_have_lem (Some a) empty [] o h = h
+may_have_lem (Some a) empty (x ∷ w) o h = absurd o
+may_have_lem (Some a) unknown w o h = tt
+may_have_lem (Some a) (top γ s) [] o h = absurd o
+may_have_lem (Some a) (top γ s) (x ∷ w) o h = rw o.0 h
 
 -- One shape says no less than another.
 abbrev pub under : Shape → Shape → Bool

@@ -9,11 +9,9 @@ use Rattle.model.specs.Schedules.{bytes_of, Shown}
 use Rattle.model.specs.Tables.{bytes_for, LineTable}
 use Rattle.model.specs.Valid.{Valid}
 use Rattle.model.specs.Verdict.{clear, found, Judged}
-use Rattle.logs.specs.declared.Followed.TheVariants as following
 use Rattle.logs.specs.Log.{followed_of}
 use Rattle.logs.specs.Placings.{Fewest}
 use Rattle.record.specs.Reader.{read_of}
-use Rattle.replay.specs.declared.Replayed.TheVariants as replayed
 use Rattle.replay.specs.Replay.{replay_of}
 
 -- The bytes of a line table, if they are given.
@@ -47,7 +45,7 @@ pub record Accepts (bytes : List ℕ) (Fact : Model → Type 0) : Type 0 where
 -- Bytes are a schedule of n steps that reaches the target, and replay says so, with these depths.
 abbrev pub Scheduled : Model → ℕ → Depths → List ℕ → Type 0
 Scheduled m n depths bytes =
-    Shown (Reaches m) n (λ ss. bytes ≡ bytes_of ss) × (replay_of m bytes ≡ replayed.Accepted m.target true depths)
+    Shown (Reaches m) n (λ ss. bytes ≡ bytes_of ss) × (replay_of m bytes ≡ accepted (record { shared = m.target; reached = true; depths = depths }))
 
 -- Where bytes are given, they are just as many as the line table of a model has, and a store of zeros comes to hold them.
 abbrev pub Lined : Model → Table → Type 0
@@ -60,10 +58,10 @@ ClaimsOf bytes (Refused n) = read_of bytes ≡ refused n
 ClaimsOf bytes (Clear t) = Accepts bytes (λ m. Judged m clear × Lined m t)
 ClaimsOf bytes (Found n a b schedule t) =
     Accepts bytes (λ m. Judged m (found n) × Scheduled m n (record { a = a; b = b }) schedule × Lined m t)
-ClaimsOf bytes (Declined schedule n) = Accepts bytes (λ m. replay_of m schedule ≡ replayed.Refused n)
+ClaimsOf bytes (Declined schedule n) = Accepts bytes (λ m. replay_of m schedule ≡ refused n)
 ClaimsOf bytes (Logged log q n) =
-    Accepts bytes (λ m. Fewest m log q n × (followed_of m log ≡ following.Accepted (record { 0 = q }) n))
-ClaimsOf bytes (Unlogged log n) = Accepts bytes (λ m. followed_of m log ≡ following.Refused n)
+    Accepts bytes (λ m. Fewest m log q n × (followed_of m log ≡ accepted (record { shared = record { 0 = q }; rounds = n })))
+ClaimsOf bytes (Unlogged log n) = Accepts bytes (λ m. followed_of m log ≡ refused n)
 
 -- The claims of a case.
 abbrev pub Claims : Case → Type 0

@@ -12,7 +12,7 @@ use lib.ListN.{length, get_or, drop, drop_of_length-le}
 use lib.Seq.{drop-cons}
 use Rattle.model.specs.declared.Model.{Model}
 use Rattle.model.specs.declared.Right.{Right}
-use Rattle.model.specs.declared.Top.{Top}
+use Rattle.model.specs.Tops.{Top}
 use Rattle.model.specs.Lines.{States}
 use Rattle.model.specs.Rules.{put}
 use Rattle.model.specs.declared.ThreadId.{ThreadId}

@@ -1,21 +1,18 @@
 -- The entries that the cost of a line reads: with a turn end inside, a stretch's cell goes by the lane of the last one.
 use mathlib.Core.List.{List}
 use mathlib.Core.Path.{◌≡◌, refl, sym}
-use Prim.Native.Nat.{ℕ, zero, suc, ◌+◌, ◌-◌, ◌*◌, ◌≤◌}
+use Prim.Native.Nat.{ℕ, zero, suc, ◌+◌, ◌-◌, ◌≤◌}
 use native.Mathlib.Nat.{sub-zero}
 use native.Mathlib.Numerals.{add-one}
 use native.Mathlib.Omega.{arith}
-use lib.ListN.{get_or}
 use borrow.Author.Tests.{le-leb}
-use Rattle.model.specs.declared.ThreadId.{ThreadId}
-use Rattle.model.specs.declared.Top.{Top}
+use Rattle.model.specs.Tops.{Top}
 use Rattle.summary.specs.Cells.{free_of, stays_of}
 use Rattle.summary.specs.Control.{Control, number, TurnEnd, dest, cell_from, entry}
 use Rattle.summary.specs.Edges.{cell, best_of}
 use Rattle.summary.specs.Stretch.{End, pop, stay, end_of}
 use Rattle.costs.specs.Cost.{control, over_states, over_turns}
-use Rattle.costs.specs.Ends.{turn_of, ends_of}
-use Rattle.costs.specs.Lanes.{cell_at, end_lane, LaneTo}
+use Rattle.costs.specs.Lanes.{cell_at, LaneTo}
 
 -- The cell of a stretch, by the lane.
 pub cell_at_lem : (N : ℕ) (ends : ℕ → TurnEnd) (k j q p γ d l : ℕ) → q ≡ j + k → k ≤ 2 → LaneTo ends q l
@@ -63,25 +60,9 @@ module _ (N : ℕ) (ends : ℕ → TurnEnd) (tab : List ℕ) where
           ← eb,
         ) en
 
--- The lane before turn 1 and before turn 2; before turn 0 any number will do.
-pub lane_one : (ends : ℕ → TurnEnd) (j l : ℕ) → j ≡ 1 → l ≡ end_lane ends 0 → LaneTo ends j l
-lane_one ends j l e h = rw e h
-
-pub lane_two : (ends : ℕ → TurnEnd) (j l : ℕ) → (j ≡ 1 → ⊥) → j ≤ 2 → l ≡ end_lane ends 1 → LaneTo ends j l
-lane_two ends zero l e two h = tt
-lane_two ends (suc zero) l e two h = absurd (e refl)
-lane_two ends (suc (suc zero)) l e two h = h
-lane_two ends (suc (suc (suc j))) l e two h = absurd (omega arith)
-
 -- One number of turn ends more.
 pub turn_more : (N : ℕ) (ends : ℕ → TurnEnd) (tab : List ℕ) (c d : Control) (top : Top) (γ j best new : ℕ)
     → new ≡ over_states N ends tab c γ top d j (free_of N) best → best ≡ over_turns N ends tab c γ top d j
     → new ≡ over_turns N ends tab c γ top d (j + 1)
 unfolding over_turns
 turn_more N ends tab c d top γ j best new e f = rw (add-one j, ← f) e
-
--- The lane of a turn end, from its two states.
-pub lane_made : (i : ThreadId) (line : List ℕ) (j turn o e : ℕ) → turn ≡ turn_of i j → o ≡ get_or line turn 0
-    → e ≡ get_or line (turn + 1) 0
-    → o * 4 + e ≡ end_lane (ends_of i line) j
-lane_made i line j turn o e h p q = rw (p, q, add-one, h)

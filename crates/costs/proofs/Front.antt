@@ -29,18 +29,3 @@ front_next {Good} {k} {x} {old} {new} r room e =
           (rw (get_or-set_same new k x 0 room) e);
       above = λ v l. get_or-set_other new k v x 0 (λ s. omega arith) ∙ r.above v (omega arith);
     }
-
--- One value more is good as it was.
-pub front_keep : {Good : ℕ → ℕ → Type 0} {k : ℕ} {old new : List ℕ} → Front Good k old new → Good k (get_or old k 0)
-    → Front Good (k + 1) old new
-front_keep {Good} {k} {old} {new} r e =
-    record {
-      size = r.size;
-      below = below_more (λ i. Good i (get_or new i 0)) k r.below (rw (r.above k (omega arith)) e);
-      above = λ v l. r.above v (omega arith);
-    }
-
--- At the end all values are good.
-pub front_all : {Good : ℕ → ℕ → Type 0} {k count size : ℕ} {old new : List ℕ} → Front Good k old new → count ≡ size → count ≤ k
-    → (v : ℕ) → v < size → Good v (get_or new v 0)
-front_all r e l v h = r.below v (omega arith)

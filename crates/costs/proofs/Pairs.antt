@@ -13,8 +13,8 @@ use lib.Dec.{T}
 use lib.ListN.{length, length-append}
 use Rattle.model.specs.declared.Right.{Right}
 use Rattle.model.specs.declared.Thread.{Thread}
-use Rattle.model.specs.declared.Top.{Top}
-use Rattle.model.specs.declared.Top.TheVariants.{Any, Named}
+use Rattle.model.specs.Tops.{Top}
+use Rattle.std.specs.Prelude.{None, Some}
 use Rattle.model.specs.Walk.{has_top, Step}
 use Rattle.model.proofs.Inside.{applies_iff}
 use Rattle.model.proofs.Tests.{equal}
@@ -46,8 +46,8 @@ Made {S = S} Move Switch top c γ d v = v ≤ cap → (ss : List S) × Path Move
 
 -- The floor is no named top.
 pub floor_low : (top : Top) → TopFits top → OnTop top 16 → T (has_top top [])
-floor_low Any fits o = tt
-floor_low (Named s) fits o = absurd (omega (arith, (equal 16 s.0).0 o))
+floor_low None fits o = tt
+floor_low (Some s) fits o = absurd (omega (arith, (equal 16 s.0).0 o))
 
 module _ {C S : Type 0} {Move : C → ℕ → S → Right → C → Type 0} {Switch : C → C → Type 0} (φ : ℕ)
     (idle : (c d : C) (s : S) (x : Right) → Move c φ s x d → ⊥) where

@@ -12,8 +12,8 @@ use lib.ListN.{length}
 use Rattle.model.specs.declared.Model.{Model}
 use Rattle.model.specs.Rules.{rule_at, applies, put, held_at}
 use Rattle.model.specs.Runs.{Turns, stop, end, move, Marked, EndsUnder}
-use Rattle.model.specs.declared.Top.{Top}
-use Rattle.model.specs.declared.Top.TheVariants.{Any}
+use Rattle.model.specs.Tops.{Top}
+use Rattle.std.specs.Prelude.{None}
 use Rattle.model.specs.declared.ThreadId.{ThreadId}
 use Rattle.model.specs.declared.ThreadId.TheVariants.{A, B}
 use Rattle.model.specs.Walk.{other, owner_of, thread_of, Stacks, stack_of, with_stack, start_stacks, has_top, under_tops, Step}
@@ -93,7 +93,7 @@ tops_of m k = (thread_of k m).top
 
 -- No top at all.
 abbrev pub any_top : ThreadId → Top
-any_top k = Any
+any_top k = None
 
 -- Stacks under the tops that a model asks for, as a test and thread by thread.
 pub under_tops_lem : (m : Model) (σ : Stacks) → T (under_tops m σ) ↔ Under (tops_of m) σ
@@ -256,7 +256,7 @@ joined_under {m} v w =
 pub marked_views : {m : Model} (line : List ℕ)
     → Marked m line ↔ (
     (xs : List Step) × (ys : List Step)
-    × View m A Any 0 false m.start.0 (m.a.first.0 ∷ []) line xs × View m B Any 0 false m.start.0 (m.b.first.0 ∷ []) line ys
+    × View m A None 0 false m.start.0 (m.a.first.0 ∷ []) line xs × View m B None 0 false m.start.0 (m.b.first.0 ∷ []) line ys
     )
 marked_views {m} line = (
   λ r. let v = views any_top r.2 (λ k. tt) in (v.xs, v.ys, v.a, v.b),

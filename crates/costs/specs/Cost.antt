@@ -5,8 +5,8 @@ use Rattle.model.specs.declared.Symbol.{Symbol}
 use Rattle.model.specs.declared.Thread.{Thread}
 use Rattle.model.specs.Lines.{digits}
 use Rattle.model.specs.declared.Model.{Model}
-use Rattle.model.specs.declared.Top.{Top}
-use Rattle.model.specs.declared.Top.TheVariants.{Named}
+use Rattle.model.specs.Tops.{Top}
+use Rattle.std.specs.Prelude.{Some}
 use Rattle.model.specs.declared.ThreadId.{ThreadId}
 use Rattle.model.specs.declared.ThreadId.TheVariants.{A, B}
 use Rattle.model.specs.Walk.{thread_of, Step}
@@ -80,7 +80,7 @@ BothCosts m p q a b = CostsOf m A p a × CostsOf m B q b
 
 -- What holds of a top that is named. Where none is named, what is known for any top serves.
 pub record WhereNamed (top : Top) (P : Top → Type 0) : Type 0 where
-  pub named : (s : Symbol) → top ≡ Named s → P (Named s)
+  pub named : (s : Symbol) → top ≡ Some s → P (Some s)
 
 -- The list of costs of A for the top that it names.
 abbrev pub FirstNamed : Model → List ℕ → Type 0

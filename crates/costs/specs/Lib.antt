@@ -1,4 +1,5 @@
 pub mod Cost
 pub mod Ends
 pub mod Lanes
+pub mod Passages
 pub mod View

@@ -2,7 +2,7 @@
 -- line's next state.
 use Rattle.std.specs.Prelude.{Bool, false, List, [], ◌∷◌, ◌≡◌, ℕ, suc, T}
 use Rattle.model.specs.declared.Model.{Model}
-use Rattle.model.specs.declared.Top.{Top}
+use Rattle.model.specs.Tops.{Top}
 use Rattle.model.specs.Rules.{rule_at, applies, put, held_at}
 use Rattle.model.specs.declared.ThreadId.{ThreadId}
 use Rattle.model.specs.Walk.{other, owner_of, thread_of, has_top, Step}

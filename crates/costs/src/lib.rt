@@ -1,152 +1,92 @@
 // The costs of a thread along full lines: the least number of its steps along each, capped.
 #![tactic(auto)]
 
-ghost use Rattle.std.specs.Prelude.{◌≡◌, ◌≤◌, ◌<◌, length};
+ghost use Rattle.std.specs.Prelude.{◌≡◌, ◌-◌, ◌≤◌, None, length};
 ghost use Rattle.model.specs.Fits.{Fits, TopFits, ThreadFits};
-ghost use Rattle.model.specs.declared.Top.{Top};
-ghost use Rattle.model.specs.declared.Top.TheVariants.{Any};
-ghost use Rattle.summary.specs.Cells.{controls_of, size, stays_of};
-ghost use Rattle.costs.specs.Cost.{Costs, BothCosts, WhereNamed, FirstNamed, SecondNamed};
-ghost use Rattle.costs.specs.Lanes.{full_lines, TableFor, side_of, SideFits, ReadOff};
+ghost use Rattle.summary.specs.Cells.{controls_of, size};
+ghost use Rattle.costs.specs.Cost.{BothCosts, WhereNamed, FirstNamed, SecondNamed};
+ghost use Rattle.costs.specs.Lanes.{full_lines, TableFor, SideCosts};
 
 pub mod line;
 pub mod parts;
+mod passage;
+mod reading;
 pub mod room;
+pub mod side;
 mod slices;
+pub mod table;
 
-use crate::line::line_cost;
-use crate::parts::power;
+use crate::reading::Reading;
+use crate::side::Side;
 use crate::slices::fill_ends;
 use model::{Model, Thread, ThreadId, Top};
-use summary::controls_of;
-use summary::turns::{close_first, close_plain};
+use summary::pushdown::Pushdown;
 
 // So many full lines there are at most: four states at the ends of six turns.
 pub const LINES: usize = 4096;
 
-// The first destination of staying under any top.
-pub const STAYS: usize = 4;
-
-// The first destination of staying under the named top.
-pub const NAMED: usize = 8;
-
-// A thread's side of the full lines: the states in a line are below g, and the table has so many controls; the run starts in a state,
-// and the thread with one symbol.
-#[derive(Clone, Copy)]
-pub struct Side {
-    pub g: usize,
-    pub controls: usize,
-    pub id: ThreadId,
-    pub start: usize,
-    pub symbol: usize,
-}
+// That a model is in range is a clause of these calls and of those that go by them: a caller may hold any model, so `Model` cannot say it, and the
+// caller has checked it already. With a type for it each clause would say `x.model` for `m`, and each caller would build it from the proof that it
+// now gives.
 
 // The costs of all full lines of both threads of a model in range, to any top. The table is for the search.
 pub fn lines(m: Model, table: &mut [u16], a: &mut [u16], b: &mut [u16])
-    requires fact_1 { Fits m }
-    requires fact_2 { TableFor m table.old × (length a.old ≡ full_lines) × (length b.old ≡ full_lines) }
-    ensures { BothCosts m Any Any a.new b.new }
+    requires fits { Fits m }
+    requires room { TableFor m table.old × (length a.old ≡ full_lines) × (length b.old ≡ full_lines) }
+    ensures { BothCosts m None None a.new b.new }
 {
-    let g = m.g as usize;
-    let n = m.k as usize - 1;
-    let start = m.start.0 as usize;
-    // no top is named, so the list for it is not looked at
+    // no top is named, so the list for it is not looked at: a list of one cell stands for none, since an `Option` of a lent list would be opened
+    // again in each call below
     let mut none = [0u16; 1];
-    fill(table, a, &mut none, g, n, ThreadId::A, start, Top::Any, m.a);
-    fill(table, b, &mut none, g, n, ThreadId::B, start, Top::Any, m.b);
+    fill(table, a, &mut none, &side_of(m, ThreadId::A, m.a, None));
+    fill(table, b, &mut none, &side_of(m, ThreadId::B, m.b, None));
 }
 
 // The same, and in x and y those to the tops that the model names.
 pub fn both(m: Model, table: &mut [u16], a: &mut [u16], b: &mut [u16], x: &mut [u16], y: &mut [u16])
-    requires fact_1 { Fits m }
-    requires fact_2 { TableFor m table.old × (length a.old ≡ full_lines) × (length b.old ≡ full_lines) }
-    requires fact_3 { (length x.old ≡ full_lines) × (length y.old ≡ full_lines) }
-    ensures lines { BothCosts m Any Any a.new b.new }
+    requires fits { Fits m }
+    requires room { TableFor m table.old × (length a.old ≡ full_lines) × (length b.old ≡ full_lines) }
+    requires named { (length x.old ≡ full_lines) × (length y.old ≡ full_lines) }
+    ensures lines { BothCosts m None None a.new b.new }
     ensures first { FirstNamed m x.new }
     ensures second { SecondNamed m y.new }
 {
-    let g = m.g as usize;
-    let n = m.k as usize - 1;
-    let start = m.start.0 as usize;
-    let one = m.a;
-    let other = m.b;
-    let top_one = one.top;
-    let top_other = other.top;
-    fill(table, a, x, g, n, ThreadId::A, start, top_one, one);
-    fill(table, b, y, g, n, ThreadId::B, start, top_other, other);
+    fill(table, a, x, &side_of(m, ThreadId::A, m.a, m.a.top));
+    fill(table, b, y, &side_of(m, ThreadId::B, m.b, m.b.top));
 }
 
-// The costs of all full lines of a thread with n turn ends: to any top, and to the named one.
-fn fill(
-    table: &mut [u16],
-    costs: &mut [u16],
-    named: &mut [u16],
-    g: usize,
-    n: usize,
-    id: ThreadId,
-    start: usize,
-    top: Top,
-    th: Thread,
-)
-    requires fact_1 { (size (controls_of th g) ≤ length table.old) × (length costs.old ≡ full_lines) × (1 ≤ g) × (g ≤ 4) × (n ≤ 2) × (start < g)
-        × TopFits top × ThreadFits g th }
-    requires fact_2 { WhereNamed top (λ f. length named.old ≡ full_lines) }
-    ensures any { Costs th Any id g n start costs.new }
-    ensures named { WhereNamed top (λ f. Costs th f id g n start named.new) }
+// The side of a thread of a model, for a top.
+pub fn side_of(m: Model, id: ThreadId, th: Thread, top: Top) -> Side
+    requires { Fits m × TopFits top × ThreadFits m.g th }
+    ensures system { (result.system.th ≡ th) × (result.system.g ≡ m.g) × (result.system.top ≡ top) }
+    ensures turns { (result.id ≡ id) × (result.n ≡ m.k - 1) × (result.start ≡ m.start.0) }
 {
-    let side = side_of(th, g, id, start);
-    close_plain(table, g, top, th);
-    if n == 0 {
-        fill_all(table, costs, side, n, STAYS);
-        fill_named(table, named, side, n, top);
-        return;
-    }
-    close_first(table, g, top, th);
-    if n == 1 {
-        fill_all(table, costs, side, n, STAYS);
-        fill_named(table, named, side, n, top);
-        return;
-    }
-    fill_ends(table, costs, named, side, top, th);
-}
-
-// A thread's side of the full lines.
-fn side_of(th: Thread, g: usize, id: ThreadId, start: usize) -> Side
-    requires { g ≤ 4 }
-    ensures { result ≡ side_of th g id start }
-{
-    let controls = controls_of(th, g);
-    let symbol = th.first.0 as usize;
     Side {
-        g,
-        controls,
+        system: Pushdown::new(th, m.g as usize, top),
         id,
-        start,
-        symbol,
+        n: m.k as usize - 1,
+        start: m.start.0 as usize,
     }
 }
 
-// The costs of all full lines to the named top, where there is one.
-fn fill_named(table: &[u16], named: &mut [u16], side: Side, n: usize, top: Top)
-    requires fact_1 { SideFits side × (size side.controls ≤ length table.now) × (n ≤ 2) }
-    requires fact_2 { WhereNamed top (λ f. length named.old ≡ full_lines) }
-    ensures { WhereNamed top (ReadOff table.now side n named.new) }
+// The costs of all full lines of a side: to any top, and to the named one. Both lists and the table are lent by the caller, each with its own room,
+// so what is asked of each is a clause: a struct that holds them would promise in each call that its `&mut` are still the caller's.
+fn fill(table: &mut [u16], costs: &mut [u16], named: &mut [u16], side: &Side)
+    requires room { size (controls_of side.now.system.th side.now.system.g) ≤ length table.old }
+    requires costs { length costs.old ≡ full_lines }
+    requires named { WhereNamed side.now.system.top (λ f. length named.old ≡ full_lines) }
+    ensures any { SideCosts side.now None costs.new }
+    ensures named { WhereNamed side.now.system.top (λ f. SideCosts side.now f named.new) }
 {
-    match top {
-        Top::Any => {}
-        Top::Named(_) => fill_all(table, named, side, n, NAMED),
+    side.system.close_plain(table);
+    if side.n == 0 {
+        Reading { side, cells: table }.fill(costs, named);
+        return;
     }
-}
-
-// The costs of all full lines, to a top whose destinations start at `stays`.
-fn fill_all(table: &[u16], costs: &mut [u16], side: Side, n: usize, stays: usize)
-    requires { SideFits side × (size side.controls ≤ length table.now) × (length costs.old ≡ full_lines) × (n ≤ 2) × (stays ≤ 8) }
-    ensures { (f : Top) → stays ≡ stays_of f → ReadOff table.now side n costs.new f }
-{
-    let count = power(side.g, 2 * n + 2);
-    let mut v = 0;
-    while v < count {
-        costs[v] = line_cost(table, side, n, stays, v);
-        v += 1;
+    side.system.close_first(table);
+    if side.n == 1 {
+        Reading { side, cells: table }.fill(costs, named);
+        return;
     }
+    fill_ends(table, costs, named, side);
 }

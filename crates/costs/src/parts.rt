@@ -6,30 +6,62 @@ ghost use Rattle.costs.specs.Lanes.{full_lines, line_lane};
 
 use model::ThreadId;
 
-// A power of G: so many lines have `len` states.
+// A line of `len` states below g, by its value.
+#[derive(Clone, Copy)]
+pub struct Line {
+    pub g: usize,
+    pub len: usize,
+    pub value: usize,
+    ghost some: { 1 ≤ g },
+    ghost four: { g ≤ 4 },
+    ghost six: { len ≤ 6 },
+    ghost below: { value < g ^ len },
+}
+
+impl Line {
+    // State j, and 0 beyond the line's end.
+    pub fn state(self, j: usize) -> usize
+        ensures { (result ≡ get_or (digits self.g self.len self.value) j 0) × (result < self.g) }
+    {
+        if self.len <= j {
+            return 0;
+        }
+        let p = power(self.g, self.len - 1 - j);
+        self.value % (p * self.g) / p
+    }
+
+    // The lane of a thread's turn end j. That there are three turns at most is the range of the caller's own loop; a type
+    // for a number up to 2 would be unwrapped at each use.
+    pub fn lane(self, id: ThreadId, j: usize) -> usize
+        requires { j ≤ 2 }
+        ensures { (result ≡ line_lane id self.g self.len self.value j) × (result < 16) }
+    {
+        let turn = turn_of(id, j);
+        self.state(turn) * 4 + self.state(turn + 1)
+    }
+
+    // The state in which a thread's first turn starts.
+    pub fn first_state(self, id: ThreadId, start: usize) -> usize
+        requires { start < self.g }
+        ensures { (result ≡ first_state id start (digits self.g self.len self.value)) × (result < self.g) }
+    {
+        match id {
+            ThreadId::A => start,
+            ThreadId::B => self.state(0),
+        }
+    }
+}
+
+// A power of G: so many lines have `len` states. By a loop, since the library's `pow` makes a line table take a sixth longer.
 pub fn power(g: usize, len: usize) -> usize
     requires { (g ≤ 4) × (len ≤ 6) }
     ensures { (result ≡ g ^ len) × (result ≤ full_lines) }
 {
     let mut r = 1;
-    let mut i = 0;
-    while i < len {
+    for _ in 0..len {
         r *= g;
-        i += 1;
     }
     r
-}
-
-// State j of the line of `len` states whose value is v, and 0 beyond its end.
-pub fn state_at(g: usize, len: usize, v: usize, j: usize) -> usize
-    requires { (1 ≤ g) × (g ≤ 4) × (len ≤ 6) × (v < g ^ len) }
-    ensures { (result ≡ get_or (digits g len v) j 0) × (result < g) }
-{
-    if len <= j {
-        return 0;
-    }
-    let p = power(g, len - 1 - j);
-    v % (p * g) / p
 }
 
 // The number of a thread's own turn j.
@@ -40,25 +72,5 @@ pub fn turn_of(id: ThreadId, j: usize) -> usize
     match id {
         ThreadId::A => 2 * j,
         ThreadId::B => 2 * j + 1,
-    }
-}
-
-// The lane of a thread's turn end j along a line.
-pub fn lane_of(g: usize, len: usize, v: usize, id: ThreadId, j: usize) -> usize
-    requires { (1 ≤ g) × (g ≤ 4) × (len ≤ 6) × (v < g ^ len) × (j ≤ 2) }
-    ensures { (result ≡ line_lane id g len v j) × (result < 16) }
-{
-    let turn = turn_of(id, j);
-    state_at(g, len, v, turn) * 4 + state_at(g, len, v, turn + 1)
-}
-
-// The state in which a thread's first turn along a line starts.
-pub fn first_state(g: usize, len: usize, v: usize, id: ThreadId, start: usize) -> usize
-    requires { (1 ≤ g) × (g ≤ 4) × (len ≤ 6) × (v < g ^ len) × (start < g) }
-    ensures { (result ≡ first_state id start (digits g len v)) × (result < g) }
-{
-    match id {
-        ThreadId::A => start,
-        ThreadId::B => state_at(g, len, v, 0),
     }
 }

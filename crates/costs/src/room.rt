@@ -8,12 +8,5 @@ use model::Model;
 pub fn is_free(m: Model) -> bool
     ensures { result ≡ (all_zero m.a.held && all_zero m.b.held) }
 {
-    let first = m.a;
-    let second = m.b;
-    let marks_a = first.held;
-    let marks_b = second.held;
-    if model::all_zero(marks_a) {
-        return model::all_zero(marks_b);
-    }
-    false
+    model::all_zero(m.a.held) && model::all_zero(m.b.held)
 }

@@ -12,8 +12,8 @@ use Rattle.model.specs.Lines.{States, Line, last_of, value, digits}
 use Rattle.model.specs.Runs.{Marked}
 use Rattle.model.specs.declared.ThreadId.{ThreadId}
 use Rattle.model.specs.declared.ThreadId.TheVariants.{A, B}
-use Rattle.model.specs.declared.Top.{Top}
-use Rattle.model.specs.declared.Top.TheVariants.{Any}
+use Rattle.model.specs.Tops.{Top}
+use Rattle.std.specs.Prelude.{None}
 use Rattle.model.proofs.Positions.{value_below, length_digits, digits_value}
 use Rattle.model.proofs.Turns.{marked_padded}
 use Rattle.summary.specs.Table.{cap}
@@ -24,7 +24,7 @@ use Rattle.draw.specs.Marks.{padded}
 
 -- A line is marked exactly if both costs are reached.
 marked_costs : (m : Model) (line : List ℕ) {a b : ℕ}
-    → ViewCost m A Any line a → ViewCost m B Any line b → Marked m line ↔ ((a ≤ cap) × (b ≤ cap))
+    → ViewCost m A None line a → ViewCost m B None line b → Marked m line ↔ ((a ≤ cap) × (b ≤ cap))
 marked_costs m line p q = (
   λ r. let v = (marked_views line).0 r in ((p.least v.2).0, (q.least v.3).0),
   λ h. let v = p.some h.0 in let w = q.some h.1 in (marked_views line).1 (v.0, w.0, v.1, w.1),
@@ -81,12 +81,12 @@ full_cost m i top costs k c line size states =
     (low, subst (λ l. ViewCost m i top l (get_or costs v 0)) same (line_cost_lem m i top costs k c v low))
 
 -- Both costs of the full line that stands for a line say whether the line is marked.
-pub marked_full : (m : Model) (a b : List ℕ) → 1 ≤ m.k → BothCosts m Any Any a b → (line : List ℕ) → Line m.g m.k line
+pub marked_full : (m : Model) (a b : List ℕ) → 1 ≤ m.k → BothCosts m None None a b → (line : List ℕ) → Line m.g m.k line
     → ((get_or a (value m.g (padded m.k line)) 0 ≤ cap) × (get_or b (value m.g (padded m.k line)) 0 ≤ cap)) ↔ Marked m line
 marked_full m a b k c line l =
     let full : List ℕ = padded m.k line in
-    let one = full_cost m A Any a k c.0 full (full_length l) (full_states l) in
-    let other = full_cost m B Any b k c.1 full (full_length l) (full_states l) in
+    let one = full_cost m A None a k c.0 full (full_length l) (full_states l) in
+    let other = full_cost m B None b k c.1 full (full_length l) (full_states l) in
     let padding : Marked m line ↔ Marked m full =
     rw (last_any m.start.0 0 line l.some) at (marked_padded {m = m} (2 * m.k - length line) line) in
     let e = Iff.trans padding (marked_costs m full one.1 other.1) in

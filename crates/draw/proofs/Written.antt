@@ -10,7 +10,7 @@ use lib.Dec.{T}
 use lib.ListN.{length, drop, set}
 use lib.Seq.{drop-set-lt}
 use Rattle.model.specs.declared.Model.{Model}
-use Rattle.model.specs.declared.Top.TheVariants.{Any}
+use Rattle.std.specs.Prelude.{None}
 use Rattle.model.specs.Bits.{bit_at}
 use Rattle.model.specs.Fits.{Fits}
 use Rattle.model.specs.Lines.{Line, bits, value, position, table_bits}
@@ -47,7 +47,7 @@ bit_written {bytes = bytes} w p h =
     rw place at (w.front.below (p / 8) byte (p % 8) (omega arith))
 
 -- The place of a line is marked exactly if the line is.
-drawn_marked : (m : Model) (a b : List ℕ) → 1 ≤ m.k → BothCosts m Any Any a b → (line : List ℕ) → Line m.g m.k line
+drawn_marked : (m : Model) (a b : List ℕ) → 1 ≤ m.k → BothCosts m None None a b → (line : List ℕ) → Line m.g m.k line
     → DrawnAt m.g m.k a b (position m.g line) ↔ Marked m line
 drawn_marked m a b k c line l = (
   λ d.
@@ -65,7 +65,7 @@ drawn_marked m a b k c line l = (
 )
 
 -- A table that is written whole is the model's line table.
-pub written_table : (m : Model) (a b : List ℕ) {bytes at : ℕ} {old new : List ℕ} → 1 ≤ m.k → BothCosts m Any Any a b
+pub written_table : (m : Model) (a b : List ℕ) {bytes at : ℕ} {old new : List ℕ} → 1 ≤ m.k → BothCosts m None None a b
     → bytes ≡ bytes_for m.g m.k → at ≡ bytes_for m.g m.k
     → Written (DrawnAt m.g m.k a b) bytes old new at → LineTable m old new
 written_table m a b {old = old} {new = new} k c e f d =

@@ -2,16 +2,15 @@
 -- or is the line table, which leaves no bit open, or holds the least schedule, of which there is one.
 use mathlib.Core.List.{List}
 use mathlib.Core.Path.{◌≡◌, refl, sym, ap, subst, ◌∙◌}
-use Prim.Native.Nat.{ℕ}
+use Prim.Native.Nat.{ℕ, zero, suc}
 use contract.Lifetimes.{Lfts}
 use denote.Bor.{Bor}
 use denote.Ref.{MutBor, at_last}
 use lib.ListN.{length}
+use Rattle.std.specs.Prelude.{Ok}
 use Rattle.model.specs.declared.Model.{Model}
 use Rattle.model.specs.Bits.{Bytes}
 use Rattle.model.specs.Results as result
-use Rattle.merge.specs.declared.Merged.{Merged}
-use Rattle.merge.specs.declared.Merged.TheVariants as merged
 use Rattle.merge.specs.Answer.{merging_of}
 use Rattle.batch.proofs.Determined.{bytes_same}
 use Rattle.judge.specs.Answer.{refusal_of, LeavesLines}
@@ -20,7 +19,7 @@ use Rattle.reach.specs.Answer.{outcome_of}
 use Rattle.reach.proofs.Determined.{leaves_determined}
 use Rattle.record.specs.Reader.{Read, read_of}
 use Rattle.ffi.specs.Replies.{Reply, number_of, judge_reply, batch_reply, Says}
-use Rattle.ffi.specs.Calls.{Answered, WrittenBy, SecondCall}
+use Rattle.ffi.specs.Calls.{Answered, WrittenBy, SecondCall, LeftBy}
 use Rattle.ffi.proofs.turncheck_batch.Reads as batch
 use Rattle.ffi.proofs.turncheck_first.Reads as first
 use Rattle.ffi.proofs.turncheck_follow.Reads as follow
@@ -101,6 +100,11 @@ pub sequentialize_determined : (κs : Lfts 2) (bytes : Bor (List ℕ)) (store : 
 sequentialize_determined κs bytes store r s new new' p q =
     by_reading bytes.now (λ n e. both (rw e at p) (rw e at q)) (λ m rest e. both (rw e at p) (rw e at q))
 
+-- What is left in a line store of bytes is determined.
+left_determined : (m : Model) (n : ℕ) (old new new' : List ℕ) → Bytes new → Bytes new' → LeftBy n m old new → LeftBy n m old new' → new ≡ new'
+left_determined m zero old new new' small small' p q = leaves_determined m (Ok tt) old new new' small small' p q
+left_determined m (suc n) old new new' small small' p q = p ∙ sym q
+
 -- The line table, in a store that holds bytes at exit, as its type says.
 pub lines_determined : (κs : Lfts 2) (bytes : Bor (List ℕ)) (store : MutBor (List ℕ)) (r s : ℕ) (new new' : List ℕ) → Bytes new → Bytes new'
     → lines.Post κs (bytes, (store, tt)) r (bytes, (at_last store new, tt))
@@ -110,7 +114,7 @@ lines_determined κs bytes store r s new new' small small' p q =
     by_reading bytes.now (λ n e. both (rw e at p) (rw e at q)) λ m rest e.
     let x = rw e at p in
     let y = rw e at q in
-    (said x.0 y.0, leaves_determined m (outcome_of m (length store.now)) store.now new new' small small' x.1 y.1)
+    (said x.0 y.0, left_determined m (outcome_of m (length store.now)) store.now new new' small small' x.1 y.1)
 
 -- A judgement with both stores: it is the only right one ..
 answered_same : {m : Model} {r s : ℕ} {lines l l' schedule w w' : List ℕ} → Bytes l → Bytes l' → Answered m r lines l schedule w
@@ -136,10 +140,10 @@ judge_determined κs bytes lines schedule r s l l' w w' small small' p q =
     (λ m rest e. answered_same small small' (rw e at p) (rw e at q))
 
 -- The record of two models made one: by what merging answers ..
-written_by_lem : (a : Merged) (whole : Model) (old : List ℕ) {r s : ℕ} {new new' : List ℕ} → WrittenBy a whole r old new
-    → WrittenBy a whole s old new' → (r ≡ s) × (new ≡ new')
-written_by_lem merged.Done whole old p q = both p q
-written_by_lem (merged.Refused n) whole old p q = both p q
+written_by_lem : (x : result.Result Model) (old : List ℕ) {r s : ℕ} {new new' : List ℕ} → WrittenBy x r old new
+    → WrittenBy x s old new' → (r ≡ s) × (new ≡ new')
+written_by_lem (result.accepted whole) old p q = both p q
+written_by_lem (result.refused n) old p q = both p q
 
 -- .. and by what reading the second comes to ..
 second_determined : (m : Model) (second old : List ℕ) (r s : ℕ) (new new' : List ℕ) → SecondCall m second r old new
@@ -148,7 +152,7 @@ second_determined m second old r s new new' p q =
     by_reading second (λ n e. both (rw e at p) (rw e at q)) λ n rest e.
     let x = rw e at p in
     let y = rw e at q in
-    written_by_lem (merging_of m n).answer (merging_of m n).model old x.0 y.0
+    written_by_lem (merging_of m n) old x.0 y.0
 
 -- .. and the first.
 pub merge_determined : (κs : Lfts 3) (first second : Bor (List ℕ)) (store : MutBor (List ℕ)) (r s : ℕ) (new new' : List ℕ)

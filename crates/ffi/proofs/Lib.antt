@@ -1,5 +1,4 @@
 pub mod Determined
-pub mod Merges
 pub mod Ranges
 pub mod Records
 pub mod Replies

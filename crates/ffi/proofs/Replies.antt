@@ -1,15 +1,20 @@
 -- A number tells its reply. All that stands above the kind is a multiple of 65,536, so the low byte is the kind; and what stands above
 -- the first field is one again of its quotient, so what is left of it is the field.
-use mathlib.Core.Bool.{Bool, true, false}
+use mathlib.Core.Bool.{Bool, true, false, cond}
 use mathlib.Core.Path.{◌≡◌, refl, ap, ◌∙◌}
 use Prim.Native.Nat.{ℕ, ◌+◌, ◌*◌, ◌/◌, ◌%◌, ◌≤◌, ◌<◌}
 use native.Mathlib.Omega.{arith}
 use borrow.Author.Tests.{ne_eqb}
 use Rattle.model.specs.declared.Depths.{Depths}
-use Rattle.model.specs.declared.Shared.{Shared}
-use Rattle.replay.specs.declared.Replayed.TheVariants as replayed
+use Rattle.model.specs.declared.refusal.Refusal.{Refusal}
+use Rattle.model.specs.declared.refusal.Refusal.TheVariants as refusal
+use Rattle.model.specs.Refusals as refusals
+use Rattle.model.specs.Results.{accepted}
+use Rattle.replay.specs.declared.Replayed.{Replayed}
 use Rattle.ffi.specs.Replies.{Reply, refused, done, written, clear, long, found, stopped, reached, taken, none, paged, followed, judged, printed}
-use Rattle.ffi.specs.Replies.{packed, number_of, reply_by, reply_of, FieldsFit, ReplyFits, Says, replay_reply, end_kind}
+use Rattle.ffi.specs.Replies.{packed, number_of, reply_by, reply_of, FieldsFit, ReplyFits, Says, replay_reply, end_kind, kind_number}
+use Rattle.ffi.specs.declared.numbers.Kind.{Kind}
+use Rattle.ffi.specs.declared.numbers.Kind.TheVariants as kind
 
 -- The low byte is the kind ..
 kind_told : (kind x y z : ℕ) → kind < 256 → packed kind x y z % 256 ≡ kind
@@ -94,33 +99,34 @@ reply_told (followed q n) h =
 reply_told (judged n) h = field_alone 42 n (omega arith) h
 reply_told (printed n) h = rw (kind_told 43 n 0 0 (omega arith), long_told 43 n 0 (omega arith) h)
 
--- So the number of an answer whose reply is in range says that reply, where `a` is what the code has and `b` what is promised ..
-pub says : {A : Type 0} {a b : A} {r : ℕ} (reply : A → Reply) → a ≡ b → ReplyFits (reply b) → r ≡ number_of (reply a)
-    → Says r (reply b)
-says {A} {a} {b} {r} reply e h f =
-    let number : r ≡ number_of (reply b) = f ∙ ap (λ (x : A). number_of (reply x)) e in
-    record { number = number; told = ap reply_of number ∙ reply_told (reply b) h }
+-- So the number of a reply in range says it ..
+pub says : {a : Reply} {r : ℕ} → ReplyFits a → r ≡ number_of a → Says r a
+says {a} h e = record { number = e; told = ap reply_of e ∙ reply_told a h }
 
--- .. and a refusal's number, which is its kind alone, says itself.
-pub alone : (n : ℕ) → n ≡ packed n 0 0 0
-alone n = omega arith
+-- .. and so does that of a refusal, which is its kind alone and in range ..
+refusal_fits : (r : Refusal) → (1 ≤ refusals.number_of r) × (refusals.number_of r ≤ 31)
+refusal_fits refusal.CutShort = (omega arith, omega arith)
+refusal_fits r = (omega arith, omega arith)
 
-pub says_refused : (n : ℕ) → ReplyFits (refused n) → Says n (refused n)
-says_refused n h = says {a = n} refused refl h (alone n)
+pub says_refused : (r : Refusal) → Says (refusals.number_of r) (refused (refusals.number_of r))
+says_refused r = says (refusal_fits r) (omega arith)
 
--- Done is said by 0.
+-- .. and 0, which says done.
 pub says_done : Says 0 done
 unfolding reply_by
 says_done = record { number = refl; told = refl }
 
--- A replay that is accepted has a kind that fits, and the number of that kind is the reply's.
-pub end_low : (reached : Bool) {kind : ℕ} → kind ≡ end_kind reached → kind < 256
-unfolding end_kind
-end_low true e = omega arith
-end_low false e = omega arith
+-- Every kind stands in the low byte.
+pub kind_low : (k : Kind) → kind_number k < 256
+kind_low kind.Done = omega arith
+kind_low k = omega arith
 
-pub end_number : (q : Shared) (reached : Bool) (d : Depths) {kind r : ℕ} → kind ≡ end_kind reached
-    → r ≡ packed kind q.0 d.a d.b → r ≡ number_of (replay_reply (replayed.Accepted q reached d))
+-- The number of the kind of a replay that is accepted is the reply's.
+pub end_said : (end : Replayed) {kind r : ℕ} → FieldsFit end.shared.0 end.depths → kind ≡ end_kind end.reached
+    → r ≡ packed kind end.shared.0 end.depths.a end.depths.b → Says r (replay_reply (accepted end))
 unfolding end_kind
-end_number q true d e p = rw e at p
-end_number q false d e p = rw e at p
+end_said end {kind} {r} f e p = go end.reached e
+  where
+    go : (b : Bool) → kind ≡ end_kind b → Says r (cond b (reached end.shared.0 end.depths) (stopped end.shared.0 end.depths))
+    go true e = says f (rw e at p)
+    go false e = says f (rw e at p)

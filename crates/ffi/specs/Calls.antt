@@ -1,21 +1,23 @@
 -- What each call answers for the bytes of a record or of a tray, and what each lent store then holds.
-use Rattle.std.specs.Prelude.{List, ◌≡◌, ℕ, length}
+use Rattle.std.specs.Prelude.{List, ◌≡◌, ℕ, zero, suc, length, Option, None, Some}
+use Rattle.std.specs.Prelude as std
 use Rattle.model.specs.declared.Model.{Model}
+use Rattle.model.specs.declared.refusal.Refusal.{Refusal}
 use Rattle.model.specs.Results as result
-use Rattle.batch.specs.declared.Answer.{Answer}
+use Rattle.model.specs.Results.{Result}
+use Rattle.model.specs.Tables.{LineTable}
 use Rattle.batch.specs.Bytes.{ListedBytes}
-use Rattle.merge.specs.declared.Merged.{Merged}
-use Rattle.merge.specs.declared.Merged.TheVariants.{Done, Refused}
 use Rattle.merge.specs.Answer.{merging_of, Makes}
+use Rattle.record.specs.declared.Front.{Front}
 use Rattle.record.specs.Reader.{Read, read_of}
 use Rattle.record.specs.Written.{written_of, store_of}
-use Rattle.reach.specs.Answer.{outcome_of, Leaves}
+use Rattle.reach.specs.Answer.{outcome_of}
 use Rattle.replay.specs.Replay.{replay_of}
 use Rattle.logs.specs.Log.{followed_of}
 use Rattle.page.specs.Answer.{paged_of, page_store}
-use Rattle.judge.specs.declared.Judgement.{Judgement}
+use Rattle.judge.specs.declared.Verdict.{Verdict}
 use Rattle.judge.specs.Answer.{refusal_of, Answers, LeavesLines, LeavesSchedule}
-use Rattle.tray.specs.Answer.{first_reading_of, Stands}
+use Rattle.tray.specs.Answer.{first_reading_of, AtFront}
 use Rattle.tray.specs.Tray.{tray_of}
 use Rattle.sequential.specs.Answer.{printed_of, print_store}
 use Rattle.ffi.specs.Replies.{refused, done, Says, write_reply, lines_reply, judge_reply, replay_reply, page_reply, follow_reply, first_reply}
@@ -37,14 +39,13 @@ WriteCall bytes r old new =
     (λ m. Says r (write_reply (written_of m (length old))) × (new ≡ store_of m old)) (read_of bytes)
 
 -- Writing the model that two were made, by what merging answers: the writer's answer, with the store as the writer leaves it.
-abbrev pub WrittenBy : Merged → Model → ℕ → List ℕ → List ℕ → Type 0
-WrittenBy Done whole r old new = Says r (write_reply (written_of whole (length old))) × (new ≡ store_of whole old)
-WrittenBy (Refused n) whole r old new = Says r (refused n) × (new ≡ old)
+abbrev pub WrittenBy : Result Model → ℕ → List ℕ → List ℕ → Type 0
+WrittenBy (result.accepted whole) r old new = Says r (write_reply (written_of whole (length old))) × (new ≡ store_of whole old)
+WrittenBy (result.refused n) r old new = Says r (refused n) × (new ≡ old)
 
 -- Merging two models and writing what they are made: it is made of both.
 abbrev pub MergedCall : Model → Model → ℕ → List ℕ → List ℕ → Type 0
-MergedCall m n r old new =
-    WrittenBy (merging_of m n).answer (merging_of m n).model r old new × Makes m n (merging_of m n)
+MergedCall m n r old new = WrittenBy (merging_of m n) r old new × Makes m n (merging_of m n)
 
 -- The same with the model that was read as the second ..
 abbrev pub SecondCall : Model → List ℕ → ℕ → List ℕ → List ℕ → Type 0
@@ -56,15 +57,20 @@ abbrev pub MergeCall : List ℕ → List ℕ → ℕ → List ℕ → List ℕ �
 MergeCall first second r old new =
     Either (λ n. Says r (refused n) × (new ≡ old)) (λ m. SecondCall m second r old new) (read_of first)
 
+-- What a store holds after the call for the line table, by the refusal that is due: the table, or what it held.
+abbrev pub LeftBy : ℕ → Model → List ℕ → List ℕ → Type 0
+LeftBy zero m old new = LineTable m old new
+LeftBy (suc n) m old new = new ≡ old
+
 -- The line table of the model that was read: what that call answers, with the store as it leaves it.
 abbrev pub LinesCall : List ℕ → ℕ → List ℕ → List ℕ → Type 0
 LinesCall bytes r old new =
     Either (λ n. Says r (refused n) × (new ≡ old))
-    (λ m. Says r (lines_reply (outcome_of m (length old))) × Leaves m (outcome_of m (length old)) old new) (read_of bytes)
+    (λ m. Says r (lines_reply (outcome_of m (length old))) × LeftBy (outcome_of m (length old)) m old new) (read_of bytes)
 
 -- A right judgement on a model, with both stores as it leaves them, and the number that says it.
 pub record Answered (m : Model) (r : ℕ) (lines lines_after schedule schedule_after : List ℕ) : Type 0 where
-  pub judgement : Judgement
+  pub judgement : std.Result Verdict Refusal
   pub says : Says r (judge_reply judgement)
   pub right : Answers m (refusal_of m (length lines) (length schedule)) judgement
   pub table : LeavesLines m judgement lines lines_after
@@ -96,12 +102,18 @@ SequentializeCall bytes r old new =
 abbrev pub FollowCall : List ℕ → List ℕ → ℕ → Type 0
 FollowCall bytes log r = Either (λ n. Says r (refused n)) (λ m. Says r (follow_reply (followed_of m log))) (read_of bytes)
 
--- Reading the first record of a tray: what that call answers; a record that is taken stands at the front with as many bytes as are said.
+-- Where a record is taken from a tray, it stands at its front with as many bytes as are said.
+abbrev pub Taken : Result (Option Front) → List ℕ → Type 0
+Taken (result.accepted None) tray = Unit {0}
+Taken (result.accepted (Some f)) tray = AtFront f.size tray f.model
+Taken (result.refused n) tray = Unit {0}
+
+-- Reading the first record of a tray: what that call answers, and of a record that is taken.
 abbrev pub FirstCall : List ℕ → ℕ → Type 0
-FirstCall tray r = Says r (first_reply (first_reading_of (tray_of tray)).answer) × Stands (first_reading_of (tray_of tray)) tray
+FirstCall tray r = Says r (first_reply (first_reading_of (tray_of tray))) × Taken (first_reading_of (tray_of tray)) tray
 
 -- Judging the records of a tray: what that call answers, with the list and the store as it leaves them.
 pub record BatchCall (tray : List ℕ) (r : ℕ) (list list_after store store_after : List ℕ) : Type 0 where
-  pub answer : Answer
+  pub answer : std.Result ℕ Refusal
   pub says : Says r (batch_reply answer)
   pub listed : ListedBytes tray answer list list_after store store_after

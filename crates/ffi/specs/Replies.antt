@@ -1,24 +1,18 @@
 -- What a call answers, the number that says it where the call is made from another language, and what that number tells.
-use Rattle.std.specs.Prelude.{Bool, cond, true, false, ◌≡◌, ℕ, ◌+◌, ◌*◌, ◌/◌, ◌%◌, ◌≤◌, ◌<◌, eqb}
+use Rattle.std.specs.Prelude.{Bool, cond, true, false, ◌≡◌, ℕ, zero, suc, ◌+◌, ◌*◌, ◌/◌, ◌%◌, ◌≤◌, ◌<◌, eqb, Option, None, Some, Ok, Err}
+use Rattle.std.specs.Prelude as std
 use Rattle.model.specs.declared.Depths.{Depths}
-use Rattle.batch.specs.declared.Answer.{Answer}
-use Rattle.batch.specs.declared.Answer.TheVariants as batch
-use Rattle.judge.specs.declared.Judgement.{Judgement}
-use Rattle.judge.specs.declared.Judgement.TheVariants as judgement
+use Rattle.model.specs.declared.refusal.Refusal.{Refusal}
+use Rattle.model.specs.Refusals as refusals
+use Rattle.model.specs.Results as result
+use Rattle.model.specs.Results.{Result}
+use Rattle.judge.specs.declared.Verdict.{Verdict}
+use Rattle.judge.specs.declared.Verdict.TheVariants as verdict
 use Rattle.logs.specs.declared.Followed.{Followed}
-use Rattle.logs.specs.declared.Followed.TheVariants as following
-use Rattle.page.specs.declared.Paged.{Paged}
-use Rattle.page.specs.declared.Paged.TheVariants as paging
-use Rattle.reach.specs.declared.Outcome.{Outcome}
-use Rattle.reach.specs.declared.Outcome.TheVariants as outcome
-use Rattle.record.specs.declared.Written.{Written}
-use Rattle.record.specs.declared.Written.TheVariants as writing
+use Rattle.record.specs.declared.Front.{Front}
 use Rattle.replay.specs.declared.Replayed.{Replayed}
-use Rattle.replay.specs.declared.Replayed.TheVariants as replayed
-use Rattle.sequential.specs.declared.Printed.{Printed}
-use Rattle.sequential.specs.declared.Printed.TheVariants as printing
-use Rattle.tray.specs.declared.FirstRecord.{FirstRecord}
-use Rattle.tray.specs.declared.FirstRecord.TheVariants as first_record
+use Rattle.ffi.specs.declared.numbers.Kind.{Kind}
+use Rattle.ffi.specs.declared.numbers.Kind.TheVariants as kind
 
 -- Everything that a call answers: a refusal's number; done; the length of a record that was written; the three verdicts, Found with
 -- its steps and depths; the last shared state and the depths of a replay that stopped elsewhere, or that reached the target; the length of
@@ -41,6 +35,22 @@ pub data Reply : Type 0 where
 -- A kind in the low byte, and three fields of 16 bits from bit 16 on.
 abbrev pub packed : ℕ → ℕ → ℕ → ℕ → ℕ
 packed kind x y z = kind + 65536 * (x + 65536 * (y + 65536 * z))
+
+-- The number of each kind, as the C interface has it.
+abbrev pub kind_number : Kind → ℕ
+kind_number kind.Done = 0
+kind_number kind.Written = 32
+kind_number kind.Clear = 33
+kind_number kind.Long = 34
+kind_number kind.Found = 35
+kind_number kind.Stopped = 36
+kind_number kind.Reached = 37
+kind_number kind.Taken = 38
+kind_number kind.None = 39
+kind_number kind.Paged = 40
+kind_number kind.Followed = 41
+kind_number kind.Judged = 42
+kind_number kind.Printed = 43
 
 -- The number of a reply: its kind, which is a refusal's own number, 0, or from 32 on, and what it carries in the first field; depths stand
 -- in the second, A's, and the third, B's, the length of a page or of printed rules reaches into the second, and a log's rounds stand
@@ -112,28 +122,32 @@ pub record Says (r : ℕ) (a : Reply) : Type 0 where
   pub number : r ≡ number_of a
   pub told : reply_of r ≡ a
 
--- The reply to a call that writes a record.
-abbrev pub write_reply : Written → Reply
-write_reply (writing.Length n) = written n
-write_reply (writing.Refused n) = refused n
+-- The number that an answer of the code stands for: its own, or that of the refusal.
+abbrev pub number_in : std.Result ℕ Refusal → ℕ
+number_in (Ok n) = n
+number_in (Err r) = refusals.number_of r
 
--- The reply to a call that fills a line table.
-abbrev pub lines_reply : Outcome → Reply
-lines_reply outcome.Done = done
-lines_reply (outcome.Refused n) = refused n
+-- The reply to a call that writes a record.
+abbrev pub write_reply : Result ℕ → Reply
+write_reply (result.accepted n) = written n
+write_reply (result.refused n) = refused n
+
+-- The reply to a call that fills a line table, by the refusal that is due.
+abbrev pub lines_reply : ℕ → Reply
+lines_reply zero = done
+lines_reply (suc n) = refused (suc n)
 
 -- The reply to a call that judges.
-abbrev pub judge_reply : Judgement → Reply
-judge_reply judgement.Clear = clear
-judge_reply judgement.Long = long
-judge_reply (judgement.Found n depths) = found n depths
-judge_reply (judgement.Refused n) = refused n
+abbrev pub judge_reply : std.Result Verdict Refusal → Reply
+judge_reply (Ok verdict.Clear) = clear
+judge_reply (Ok verdict.Long) = long
+judge_reply (Ok (verdict.Found n depths)) = found n depths
+judge_reply (Err r) = refused (refusals.number_of r)
 
 -- The reply to a call that replays a schedule.
-abbrev pub replay_reply : Replayed → Reply
-replay_reply (replayed.Accepted shared true depths) = reached shared.0 depths
-replay_reply (replayed.Accepted shared false depths) = stopped shared.0 depths
-replay_reply (replayed.Refused n) = refused n
+abbrev pub replay_reply : Result Replayed → Reply
+replay_reply (result.accepted r) = cond r.reached (reached r.shared.0 r.depths) (stopped r.shared.0 r.depths)
+replay_reply (result.refused n) = refused n
 
 -- The kind of that reply where replay accepts, by whether the run ends at the target.
 unfoldable pub end_kind : Bool → ℕ
@@ -141,27 +155,27 @@ end_kind true = 37
 end_kind false = 36
 
 -- The reply to a call that makes a page.
-abbrev pub page_reply : Paged → Reply
-page_reply (paging.Length n) = paged n
-page_reply (paging.Refused n) = refused n
+abbrev pub page_reply : Result ℕ → Reply
+page_reply (result.accepted n) = paged n
+page_reply (result.refused n) = refused n
 
 -- The reply to a call that reads the first record of a tray.
-abbrev pub first_reply : FirstRecord → Reply
-first_reply first_record.None = none
-first_reply (first_record.Accepted n) = taken n
-first_reply (first_record.Refused n) = refused n
+abbrev pub first_reply : Result (Option Front) → Reply
+first_reply (result.accepted None) = none
+first_reply (result.accepted (Some f)) = taken f.size
+first_reply (result.refused n) = refused n
 
 -- The reply to a call that follows a log.
-abbrev pub follow_reply : Followed → Reply
-follow_reply (following.Accepted shared rounds) = followed shared.0 rounds
-follow_reply (following.Refused n) = refused n
+abbrev pub follow_reply : Result Followed → Reply
+follow_reply (result.accepted f) = followed f.shared.0 f.rounds
+follow_reply (result.refused n) = refused n
 
 -- The reply to a call that judges the records of a tray.
-abbrev pub batch_reply : Answer → Reply
-batch_reply (batch.Judged n) = judged n
-batch_reply (batch.Refused n) = refused n
+abbrev pub batch_reply : std.Result ℕ Refusal → Reply
+batch_reply (Ok n) = judged n
+batch_reply (Err r) = refused (refusals.number_of r)
 
 -- The reply to a call that prints the rules of the sequential system.
-abbrev pub print_reply : Printed → Reply
-print_reply (printing.Length n) = printed n
-print_reply (printing.Refused n) = refused n
+abbrev pub print_reply : Result ℕ → Reply
+print_reply (result.accepted n) = printed n
+print_reply (result.refused n) = refused n

@@ -41,10 +41,6 @@ module _ {m : Model} (f : Fits m) {n v : ℕ} {a b : List ℕ} (costs : TargetCo
 pub adds_elsewhere : {m : Model} {n v : ℕ} {kept : List ℕ} {seen : Bool} → (v % m.g ≡ m.target.0 → ⊥) → Adds m n v kept kept seen seen
 adds_elsewhere h old room l = lowest_elsewhere l h
 
--- A line's value is below the number of all lines.
-pub below_all : {count all v : ℕ} → count ≡ all → v < all → v < count
-below_all e h = rw e h
-
 -- So many steps are n.
 counted : (m : Model) (v : ℕ) {x n : ℕ} {was fresh : List ℕ} → x ≡ n → Stored (First (AlongLine m v) x) x 0 was fresh
     → Stored (First (AlongLine m v) n) n 0 was fresh

@@ -7,4 +7,3 @@ pub mod Lowest
 pub mod Reaching
 pub mod Roomy
 pub mod Schedules
-pub mod Tops

@@ -1,17 +1,20 @@
 -- Where its stores have room the judge refuses no valid model: 683 bytes have a bit for each line, since no model has more than 5,460.
 use mathlib.Core.Bool.{◌&&◌}
-use mathlib.Core.Path.{◌≡◌}
-use Prim.Native.Nat.{ℕ, zero, suc, ◌*◌, ◌≤◌, ◌<◌}
+use mathlib.Core.Path.{◌≡◌, sym, ◌∙◌}
+use Prim.Native.Nat.{ℕ, zero, suc, ◌*◌, ◌≤◌}
 use native.Mathlib.Nat.{pow-le-pow_left}
 use native.Mathlib.Omega.{arith}
 use lib.Dec.{leb}
 use Rattle.model.specs.declared.Model.{Model}
+use Rattle.model.specs.declared.refusal.Refusal.{Refusal}
 use Rattle.model.specs.Lines.{powers}
+use Rattle.model.specs.Refusals.{number_of}
 use Rattle.model.specs.Schedules.{most_bytes}
 use Rattle.model.specs.Tables.{bytes_for, table_fits}
 use Rattle.model.specs.Valid.{Valid}
 use Rattle.model.proofs.Granted.{granted}
 use Rattle.model.proofs.Ranges.{valid_fits}
+use Rattle.model.proofs.Refusals.{number_some}
 use Rattle.model.proofs.Tests.{both, order}
 use Rattle.judge.specs.Answer.{refusal_of}
 
@@ -46,5 +49,5 @@ unrefused m v =
     (v, (both (table_fits m 683) (leb most_bytes most_bytes)).1 ((order (bytes_for m.g m.k) 683).1 low, tt))
 
 -- So it gives no refusal.
-pub not_refused : (m : Model) {a b : ℕ} {P : Type 0} → Valid m → a ≡ 683 → b ≡ most_bytes → 0 < refusal_of m a b → P
-not_refused m v e f h = absurd (omega (arith, unrefused m v, rw (e, f) at h))
+pub not_refused : (m : Model) (r : Refusal) {a b : ℕ} {P : Type 0} → Valid m → a ≡ 683 → b ≡ most_bytes → refusal_of m a b ≡ number_of r → P
+not_refused m r v e f h = absurd (number_some r (sym (rw (e, f) at h) ∙ unrefused m v))

@@ -1,6 +1,5 @@
-// Schedules in stores: which of two comes first, and one put over another.
-ghost use Rattle.std.specs.Prelude.{◌≡◌, ◌*◌, ◌≤◌, length, take};
-ghost use Rattle.std.proofs.lemmas.List.Edits.{sets};
+// Which of two schedules in stores comes first.
+ghost use Rattle.std.specs.Prelude.{◌*◌, ◌≤◌, length};
 ghost use Rattle.judge.specs.Least.{Compared};
 
 // Whether the first `count` steps of a store stand before those of another one. A byte is a turn or a rule, so the first byte that
@@ -10,28 +9,5 @@ pub fn comes_before(fresh: &[u8], kept: &[u8], count: usize) -> bool
     ensures { Compared fresh.now kept.now count result }
 {
     let end = 2 * count;
-    let mut i = 0;
-    while i < end {
-        if fresh[i] < kept[i] {
-            return true;
-        }
-        if kept[i] < fresh[i] {
-            return false;
-        }
-        i += 1;
-    }
-    false
-}
-
-// Puts the first `count` steps of a store over the front of another one.
-pub fn copy(from: &[u8], to: &mut [u8], count: usize)
-    requires { (2 * count ≤ length from.now) × (2 * count ≤ length to.old) }
-    ensures { to.new ≡ sets to.old 0 (take (2 * count) from.now) }
-{
-    let end = 2 * count;
-    let mut i = 0;
-    while i < end {
-        to[i] = from[i];
-        i += 1;
-    }
+    &fresh[..end] < &kept[..end]
 }

@@ -1,232 +1,119 @@
 // The verdict on a model, over runs of any length and depth.
 #![tactic(auto)]
 
-ghost use Rattle.std.specs.Prelude.{false, ◌≡◌, ◌*◌, ◌^◌, ◌≤◌, length};
-ghost use Rattle.model.specs.declared.Top.TheVariants.{Any};
-ghost use Rattle.model.specs.First.{LeastSchedule};
-ghost use Rattle.model.specs.Fits.{Fits};
-ghost use Rattle.model.specs.Tables.{bytes_for};
-ghost use Rattle.model.specs.Schedules.{most_bytes, Stored};
-ghost use Rattle.model.specs.Verdict.{found, Judged};
-ghost use Rattle.costs.specs.Cost.{BothCosts, FirstNamed, SecondNamed, TargetCosts};
-ghost use Rattle.costs.specs.Lanes.{full_lines, TableFor};
-ghost use Rattle.judge.specs.Answer.{refusal_of, Answers, LeavesLines, LeavesSchedule};
-ghost use Rattle.judge.specs.Best.{Best};
+ghost use Rattle.std.specs.Prelude.{◌≡◌, ◌*◌, ◌^◌, ◌≤◌, length, replicate};
+ghost use Rattle.model.specs.Tables.{bytes_for, LineTable};
+ghost use Rattle.model.specs.declared.Symbol.{Symbol};
+ghost use Rattle.model.specs.Valid.{Valid};
+ghost use Rattle.costs.specs.Cost.{TargetCosts};
+ghost use Rattle.summary.specs.Cells.{size};
+ghost use Rattle.costs.specs.Lanes.{TableFor};
+ghost use Rattle.judge.specs.Answer.{refusal_of, Answers, LeavesLines, LeavesSchedule, TrueOf, Shows};
 
 mod choose;
 mod compare;
 mod least;
 
+use crate::choose::choose;
 use costs::LINES;
 use depths::depths;
-use model::{Depths, MOST_BYTES, Model, Top};
+use draw::Costs;
+use model::{Depths, MOST_BYTES, Model, Refusal, Top};
 use summary::CAP;
 use summary::cells::{SIZE, SMALL};
 
-// A verdict, Found with the number of steps of a shortest run and the depths of the stacks in the least of these; or a refusal's number.
-#[derive(Clone, Copy)]
-pub enum Judgement {
+// The most bytes that a line table has, a bit for each line: no model has more than 5,460 lines.
+pub const MOST_TABLE: usize = 683;
+
+// What runs of at most K rounds come to: none reaches the target; some do, each with more steps than a schedule may have; or a shortest
+// one has so many steps, and the stacks get so deep in the least of these.
+#[derive(Clone, Copy, Debug, PartialEq, Eq)]
+pub enum Verdict {
     Clear,
     Long,
     Found(u64, Depths),
-    Refused(u8),
 }
 
 // Whether runs of at most K rounds reach the target. Fills the line store, and writes the least of the shortest schedules where it is
-// Found.
-pub fn judge(m: Model, lines: &mut [u8], schedule: &mut [u8]) -> Judgement
+// Found. Where no rule is held the smaller tables will do.
+#[tactic(auto, using(crate::proofs::Answers::checks, crate::proofs::Answers::unrefused, crate::proofs::Answers::valid_model, crate::proofs::Schedules::shown_whole, draw::proofs::Refusals::sound, draw::proofs::Refusals::roomy, costs::proofs::Rooms::small_room, costs::proofs::Rooms::large_room), unfolding(model::specs::Results::first_of))]
+pub fn judge(m: Model, lines: &mut [u8], schedule: &mut [u8]) -> Result<Verdict, Refusal>
     ensures answer { Answers m (refusal_of m (length lines.old) (length schedule.old)) result }
     ensures table { LeavesLines m result lines.old lines.new }
     ensures witness { LeavesSchedule m result schedule.old schedule.new }
 {
-    let number = draw::refusal(m, lines.len());
-    if number != 0 {
-        return Judgement::Refused(number);
-    }
-    if schedule.len() < MOST_BYTES {
-        return Judgement::Refused(7);
-    }
-    verdict(m, lines, schedule)
-}
-
-// The verdict on a model in range, where the stores have room. The table is here for all ways, so that the stack holds it once: the
-// smaller one where no rule is held.
-fn verdict(m: Model, lines: &mut [u8], schedule: &mut [u8]) -> Judgement
-    requires fact_1 { Fits m }
-    requires fact_2 { bytes_for m.g m.k ≤ length lines.old }
-    requires fact_3 { most_bytes ≤ length schedule.old }
-    ensures answer { Answers m 0 result }
-    ensures table { LeavesLines m result lines.old lines.new }
-    ensures witness { LeavesSchedule m result schedule.old schedule.new }
-{
+    draw::check_store(m, lines.len())?;
+    let Some(schedule) = schedule.first_chunk_mut() else {
+        return Err(Refusal::Store);
+    };
     if costs::room::is_free(m) {
-        let mut table = [0u16; SMALL];
-        return by_tops(m, &mut table, lines, schedule);
+        return Ok(Instance::<SMALL> { m }.decide(lines, schedule));
     }
-    let mut table = [0u16; SIZE];
-    by_tops(m, &mut table, lines, schedule)
+    Ok(Instance::<SIZE> { m }.decide(lines, schedule))
 }
 
-// The same, by whether a top is named.
-fn by_tops(m: Model, table: &mut [u16], lines: &mut [u8], schedule: &mut [u8]) -> Judgement
-    requires fact_1 { Fits m }
-    requires fact_2 { TableFor m table.old }
-    requires fact_3 { bytes_for m.g m.k ≤ length lines.old }
-    requires fact_4 { most_bytes ≤ length schedule.old }
-    ensures answer { Answers m 0 result }
-    ensures table { LeavesLines m result lines.old lines.new }
-    ensures witness { LeavesSchedule m result schedule.old schedule.new }
-{
-    let first = m.a;
-    let top_a = first.top;
-    if names(top_a) {
-        return to_tops(m, table, lines, schedule);
-    }
-    let second = m.b;
-    let top_b = second.top;
-    if names(top_b) {
-        return to_tops(m, table, lines, schedule);
-    }
-    to_any(m, table, lines, schedule)
-}
-
-// Whether a symbol is named.
-fn names(top: Top) -> bool
-    ensures { (result ≡ false → top ≡ Any) × (top ≡ Any → result ≡ false) }
-{
-    match top {
-        Top::Any => false,
-        Top::Named(_) => true,
-    }
-}
-
-// The verdict where no top is named: the costs to any top serve for the line table and for the target.
-fn to_any(m: Model, table: &mut [u16], lines: &mut [u8], schedule: &mut [u8]) -> Judgement
-    requires fact_1 { Fits m }
-    requires fact_2 { TableFor m table.old }
-    requires fact_3 { bytes_for m.g m.k ≤ length lines.old }
-    requires fact_4 { most_bytes ≤ length schedule.old }
-    requires fact_5 { (m.a.top ≡ Any) × (m.b.top ≡ Any) }
-    ensures answer { Answers m 0 result }
-    ensures table { LeavesLines m result lines.old lines.new }
-    ensures witness { LeavesSchedule m result schedule.old schedule.new }
-{
-    let mut a = [0u16; LINES];
-    let mut b = [0u16; LINES];
-    costs::lines(m, table, &mut a, &mut b);
-    draw::draw(m, lines, &a, &b);
-    search(m, &a, &b, schedule)
-}
-
-// The verdict where a top may be named: the costs to any top give the line table, those to the tops that are named the verdict.
-fn to_tops(m: Model, table: &mut [u16], lines: &mut [u8], schedule: &mut [u8]) -> Judgement
-    requires fact_1 { Fits m }
-    requires fact_2 { TableFor m table.old }
-    requires fact_3 { bytes_for m.g m.k ≤ length lines.old }
-    requires fact_4 { most_bytes ≤ length schedule.old }
-    ensures answer { Answers m 0 result }
-    ensures table { LeavesLines m result lines.old lines.new }
-    ensures witness { LeavesSchedule m result schedule.old schedule.new }
-{
-    let mut a = [0u16; LINES];
-    let mut b = [0u16; LINES];
-    let mut x = [0u16; LINES];
-    let mut y = [0u16; LINES];
-    costs::both(m, table, &mut a, &mut b, &mut x, &mut y);
-    draw::draw(m, lines, &a, &b);
-    with_first(m, &a, &b, &x, &y, schedule)
-}
-
-// The verdict, where A's costs are in x if it names a top.
-fn with_first(
+// A model in range, to be judged by searches in tables of N cells, which have room for it.
+#[derive(Drop)]
+struct Instance<const N: usize> {
     m: Model,
-    a: &[u16],
-    b: &[u16],
-    x: &[u16],
-    y: &[u16],
-    schedule: &mut [u8],
-) -> Judgement
-    requires fact_1 { Fits m }
-    requires fact_2 { (full_lines ≤ length a.now) × (full_lines ≤ length b.now) × (full_lines ≤ length x.now) × (full_lines ≤ length y.now)
-        × (most_bytes ≤ length schedule.old) }
-    requires fact_3 { BothCosts m Any Any a.now b.now }
-    requires fact_4 { FirstNamed m x.now }
-    requires fact_5 { SecondNamed m y.now }
-    ensures answer { Answers m 0 result }
-    ensures witness { LeavesSchedule m result schedule.old schedule.new }
-{
-    let first = m.a;
-    let top = first.top;
-    match top {
-        Top::Any => with_second(m, a, b, y, schedule),
-        Top::Named(_) => with_second(m, x, b, y, schedule),
+    ghost valid: { Valid m },
+    ghost few: { N ≤ size 8 },
+    ghost room: { TableFor m (replicate N 0) },
+}
+
+impl<const N: usize> Instance<N> {
+    // The verdict, where the stores have room. The costs to any top give the line table, those to the tops that are named the verdict. It
+    // is a call of its own, so that the stack holds the tables of one size alone.
+    #[inline(never)]
+    #[tactic(auto, using(draw::proofs::Refusals::in_range))]
+    fn decide(&self, lines: &mut [u8], schedule: &mut [u8; MOST_BYTES]) -> Verdict
+        requires { bytes_for self.now.m.g self.now.m.k ≤ length lines.old }
+        ensures answer { TrueOf self.now.m result }
+        ensures table { LineTable self.now.m lines.old lines.new }
+        ensures witness { Shows self.now.m result schedule.old schedule.new }
+    {
+        let mut table = [0u16; N];
+        let mut a = [0u16; LINES];
+        let mut b = [0u16; LINES];
+        let mut x = [0u16; LINES];
+        let mut y = [0u16; LINES];
+        costs::both(self.m, &mut table, &mut a, &mut b, &mut x, &mut y);
+        draw::draw(self.m, lines, Costs { a: &a, b: &b });
+        let target = Costs {
+            a: to_top(self.m.a.top, &a, &x),
+            b: to_top(self.m.b.top, &b, &y),
+        };
+        self.search(target, schedule)
+    }
+
+    // The verdict, by the costs to the target.
+    #[tactic(auto, using(draw::proofs::Refusals::in_range, crate::proofs::Reaching::reaching, crate::proofs::Reaching::judged_clear, crate::proofs::Reaching::judged_long, crate::proofs::Reaching::judged_found, crate::proofs::Schedules::stored_legal, crate::proofs::Schedules::stored_witness))]
+    fn search(&self, costs: Costs, schedule: &mut [u8; MOST_BYTES]) -> Verdict
+        requires { TargetCosts self.now.m costs.a.now costs.b.now }
+        ensures answer { TrueOf self.now.m result }
+        ensures witness { Shows self.now.m result schedule.old schedule.new }
+    {
+        let m = &self.m;
+        let best = choose(m.g as usize, m.k as usize, m.target.0 as usize, costs);
+        if CAP < best {
+            return Verdict::Clear;
+        }
+        if best == CAP {
+            return Verdict::Long;
+        }
+        let count = best as usize;
+        self.least(count, costs, schedule);
+        let steps = best as u64;
+        let end = 2 * count;
+        Verdict::Found(steps, depths(self.m, &schedule[..end]))
     }
 }
 
-// The verdict, where B's costs are in y if it names a top.
-fn with_second(m: Model, a: &[u16], b: &[u16], y: &[u16], schedule: &mut [u8]) -> Judgement
-    requires fact_1 { Fits m }
-    requires fact_2 { (full_lines ≤ length a.now) × (full_lines ≤ length b.now) × (full_lines ≤ length y.now) × (most_bytes ≤ length schedule.old) }
-    requires fact_3 { BothCosts m m.a.top Any a.now b.now }
-    requires fact_4 { SecondNamed m y.now }
-    ensures answer { Answers m 0 result }
-    ensures witness { LeavesSchedule m result schedule.old schedule.new }
+// The costs to what is asked of a top: those to any top where none is named, and else those to the named one. With the choice in place
+// each thread's would be written twice, and nothing would say what was chosen.
+fn to_top<'a>(top: Top, any: &'a [u16], named: &'a [u16]) -> &'a [u16]
+    ensures none { top ≡ None → result.now ≡ any.entry.now }
+    ensures some { (s : Symbol) → top ≡ Some s → result.now ≡ named.entry.now }
 {
-    let second = m.b;
-    let top = second.top;
-    match top {
-        Top::Any => search(m, a, b, schedule),
-        Top::Named(_) => search(m, a, y, schedule),
-    }
-}
-
-// The verdict from both threads' costs of all full lines to the target.
-fn search(m: Model, a: &[u16], b: &[u16], schedule: &mut [u8]) -> Judgement
-    requires { (Fits m) × (((full_lines ≤ length a.now) × (full_lines ≤ length b.now) × (most_bytes ≤ length schedule.old)) × (TargetCosts m a.now b.now)) }
-    ensures answer { Answers m 0 result }
-    ensures witness { LeavesSchedule m result schedule.old schedule.new }
-{
-    let best = choose::choose(m.g as usize, m.k as usize, m.target.0 as usize, a, b);
-    told(m, best, a, b, schedule)
-}
-
-// The verdict that the fewest steps stand for, and the least schedule where they are few enough. The depths are read off what was written.
-fn told(m: Model, best: u16, a: &[u16], b: &[u16], schedule: &mut [u8]) -> Judgement
-    requires fact_1 { Fits m }
-    requires fact_2 { (full_lines ≤ length a.now) × (full_lines ≤ length b.now) × (most_bytes ≤ length schedule.old) }
-    requires fact_3 { TargetCosts m a.now b.now }
-    requires fact_4 { Best m.g m.target.0 (m.g ^ (2 * m.k)) a.now b.now best }
-    ensures answer { Answers m 0 result }
-    ensures witness { LeavesSchedule m result schedule.old schedule.new }
-{
-    if CAP < best {
-        return Judgement::Clear;
-    }
-    if best == CAP {
-        return Judgement::Long;
-    }
-    let count = best as usize;
-    write_least(m, count, a, b, schedule);
-    let steps = best as u64;
-    let end = 2 * count;
-    Judgement::Found(steps, depths(m, &schedule[..end]))
-}
-
-// Writes the least schedule, which has so many steps. Where no rule is held the smaller tables will do.
-fn write_least(m: Model, steps: usize, a: &[u16], b: &[u16], schedule: &mut [u8])
-    requires fact_1 { Fits m }
-    requires fact_2 { (full_lines ≤ length a.now) × (full_lines ≤ length b.now) × (most_bytes ≤ length schedule.old) }
-    requires fact_3 { TargetCosts m a.now b.now }
-    requires fact_4 { Judged m (found steps) }
-    ensures { Stored (LeastSchedule m steps) steps 0 schedule.old schedule.new }
-{
-    if costs::room::is_free(m) {
-        let mut first = [0u16; SMALL];
-        let mut second = [0u16; SMALL];
-        least::least(m, steps, a, b, &mut first, &mut second, schedule);
-    } else {
-        let mut first = [0u16; SIZE];
-        let mut second = [0u16; SIZE];
-        least::least(m, steps, a, b, &mut first, &mut second, schedule);
-    }
+    if top.is_some() { named } else { any }
 }

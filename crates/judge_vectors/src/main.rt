@@ -2,12 +2,12 @@
 // and compares: verdict, steps, depths, line table, and every byte of the schedule store.
 #![tactic(auto)]
 
-use cases::Known;
+use judge::Verdict;
+use model::{Depths, Model, Symbol, Thread, ThreadId};
 use std::io;
-use std::rt::Files;
-use vectors::{Case, Tally};
+use vectors::{Cases, Tally};
 
-mod cases;
+mod compare;
 
 // The least schedules of model Two, and of Two with one more push.
 const TWO_STEPS: [u8; 8] = [0, 0, 0, 1, 1, 0, 2, 2];
@@ -25,219 +25,251 @@ const MANY: [u8; 131] = *b"\x48\x01\x40\
 
 // The model that a record holds is Clear.
 fn clear(bytes: &[u8]) -> bool {
-    cases::agrees(bytes, cases::clear(), &[], &[])
+    compare::agrees(bytes, Verdict::Clear, &[], &[])
 }
 
 // It is Found with these depths of A and B and this least schedule.
 fn found(bytes: &[u8], a: usize, b: usize, least: &[u8]) -> bool {
-    cases::agrees(bytes, cases::found(least.len() / 2, a, b), &[], least)
+    compare::agrees(bytes, compare::found(a, b, least), &[], least)
 }
 
 // The models of document 01. Without its first rule, Two's thread A has an empty stack after its step.
 fn document() -> Tally {
-    let one = vectors::ONE;
-    let two = vectors::TWO;
-    let once = vectors::TWO_ONCE;
-    let mut t = Tally::new();
-    t = t.counted(cases::agrees(&one, cases::found(1, 1, 1), b"\x27", &[0, 0]));
-    t = t.counted(found(&two, 2, 1, &TWO_STEPS));
-    t = t.counted(cases::agrees(&once, cases::clear(), b"\x13\x06\x00", &[]));
-    t = t.counted(clear(b"\xCA\x01\x03\x02\x01\x00\x01\x01\x20\x03\x01\x03\x10\x02\x00"));
-    t = t.counted(clear(b"\xC8\x03\x02\x01\x00\x01\x01\x20\x03\x01\x03\x10\x02\x00"));
-    t = t.counted(clear(b"\xCA\x03\x03\x02\x01\x00\x01\x01\x20\x03\x01\x03\x10\x02\x00"));
-    t.counted(found(b"\x08\x00", 1, 1, &[]))
+    Tally::of(&[
+        compare::agrees(
+            &vectors::ONE,
+            compare::found(1, 1, &[0, 0]),
+            b"\x27",
+            &[0, 0],
+        ),
+        found(&vectors::TWO, 2, 1, &TWO_STEPS),
+        compare::agrees(&vectors::TWO_ONCE, Verdict::Clear, b"\x13\x06\x00", &[]),
+        clear(b"\xCA\x01\x03\x02\x01\x00\x01\x01\x20\x03\x01\x03\x10\x02\x00"),
+        clear(b"\xC8\x03\x02\x01\x00\x01\x01\x20\x03\x01\x03\x10\x02\x00"),
+        clear(b"\xCA\x03\x03\x02\x01\x00\x01\x01\x20\x03\x01\x03\x10\x02\x00"),
+        found(b"\x08\x00", 1, 1, &[]),
+    ])
 }
 
 // Tops: the start has it or not; One's A has an empty stack after its step, which moves no line; Two's A needs one more push, and B none; a
 // top that removing what lies above it brings.
 fn tops() -> Tally {
-    let one = *b"\x4B\x02\x01\x81\x01\x00\x01\x01\x00\x01";
-    let mut t = Tally::new();
-    t = t.counted(found(b"\x08\x80\x01\x00", 1, 1, &[]));
-    t = t.counted(clear(b"\x08\x80\x01\x01"));
-    t = t.counted(cases::agrees(&one, cases::clear(), b"\x27", &[]));
-    t = t.counted(found(
-        b"\xC8\x83\x01\x00\x03\x06\x00\x00\x00\x01\x00\x01\x01\x20\x03\x01\x03\x10\x02\x00",
-        3,
-        1,
-        &PUSHED,
-    ));
-    t = t.counted(found(
-        b"\xC8\x83\x02\x00\x03\x06\x00\x00\x00\x01\x00\x01\x01\x20\x03\x01\x03\x10\x02\x00",
-        2,
-        1,
-        &TWO_STEPS,
-    ));
-    t.counted(found(
-        b"\x88\x81\x02\x00\x02\x07\x00\x01\x01\x00\x00\x11",
-        1,
-        2,
-        &[1, 0, 1, 1],
-    ))
+    Tally::of(&[
+        found(b"\x08\x80\x01\x00", 1, 1, &[]),
+        clear(b"\x08\x80\x01\x01"),
+        compare::agrees(
+            b"\x4B\x02\x01\x81\x01\x00\x01\x01\x00\x01",
+            Verdict::Clear,
+            b"\x27",
+            &[],
+        ),
+        found(
+            b"\xC8\x83\x01\x00\x03\x06\x00\x00\x00\x01\x00\x01\x01\x20\x03\x01\x03\x10\x02\x00",
+            3,
+            1,
+            &PUSHED,
+        ),
+        found(
+            b"\xC8\x83\x02\x00\x03\x06\x00\x00\x00\x01\x00\x01\x01\x20\x03\x01\x03\x10\x02\x00",
+            2,
+            1,
+            &TWO_STEPS,
+        ),
+        found(
+            b"\x88\x81\x02\x00\x02\x07\x00\x01\x01\x00\x00\x11",
+            1,
+            2,
+            &[1, 0, 1, 1],
+        ),
+    ])
 }
 
-// Held rules: One's rule, which empties the stack; a target that is passed inside a held stretch alone; Two with A's rule 0 held, which
-// needs no other step, with A's rule 1 and with B's rule held, after which no step comes; both threads held, where B makes a step more;
-// and a top besides.
-fn held() -> Tally {
-    let one = *b"\x4B\x02\x01\x81\x04\x01\x00\x00\x00\x00\x00\x00\x00\x01\x01\x00\x01";
-    let inside =
-        *b"\x4B\x02\x01\x81\x04\x01\x00\x00\x00\x00\x00\x00\x00\x02\x03\x00\x01\x00\x03\x10\x00\x01";
-    let mut t = Tally::new();
-    t = t.counted(cases::agrees(&one, cases::clear(), b"\x05", &[]));
-    t = t.counted(cases::agrees(&inside, cases::clear(), b"\x05", &[]));
-    t = t.counted(found(
-        b"\xC8\x83\x04\x01\x00\x00\x00\x00\x00\x00\x00\
-          \x03\x06\x00\x00\x00\x01\x00\x01\x01\x20\x03\x01\x03\x10\x02\x00",
-        2,
-        1,
-        &TWO_STEPS,
-    ));
-    t = t.counted(clear(
-        b"\xC8\x83\x04\x02\x00\x00\x00\x00\x00\x00\x00\
-          \x03\x06\x00\x00\x00\x01\x00\x01\x01\x20\x03\x01\x03\x10\x02\x00",
-    ));
-    t = t.counted(clear(
-        b"\xC8\x83\x08\x01\x00\x00\x00\x00\x00\x00\x00\
-          \x03\x06\x00\x00\x00\x01\x00\x01\x01\x20\x03\x01\x03\x10\x02\x00",
-    ));
-    t = t.counted(found(
-        b"\xC8\x83\x0C\x01\x00\x00\x00\x00\x00\x00\x00\x01\x00\x00\x00\x00\x00\x00\x00\
-          \x03\x06\x00\x00\x00\x01\x00\x01\x01\x20\x03\x02\x03\x10\x02\x00\x02\x20\x00",
-        2,
-        1,
-        &[0, 0, 0, 1, 1, 0, 1, 1, 2, 2],
-    ));
-    t.counted(found(
-        b"\xC8\x83\x05\x00\x01\x00\x00\x00\x00\x00\x00\x00\
-          \x03\x06\x00\x00\x00\x01\x00\x01\x01\x20\x03\x01\x03\x10\x02\x00",
-        3,
-        1,
-        &PUSHED,
-    ))
+// Held rules in one thread: One's rule, which empties the stack; and a target that is passed inside a held stretch alone.
+fn held_in_one() -> Tally {
+    Tally::of(&[
+        compare::agrees(
+            b"\x4B\x02\x01\x81\x04\x01\x00\x00\x00\x00\x00\x00\x00\x01\x01\x00\x01",
+            Verdict::Clear,
+            b"\x05",
+            &[],
+        ),
+        compare::agrees(
+            b"\x4B\x02\x01\x81\x04\x01\x00\x00\x00\x00\x00\x00\x00\x02\x03\x00\x01\x00\x03\x10\x00\x01",
+            Verdict::Clear,
+            b"\x05",
+            &[],
+        ),
+    ])
+}
+
+// Held rules of Two: A's rule 0, which needs no other step; A's rule 1 and B's rule, after which no step comes; rules of both threads, where
+// B makes a step more; and a top besides.
+fn held_in_two() -> Tally {
+    Tally::of(&[
+        found(
+            b"\xC8\x83\x04\x01\x00\x00\x00\x00\x00\x00\x00\
+              \x03\x06\x00\x00\x00\x01\x00\x01\x01\x20\x03\x01\x03\x10\x02\x00",
+            2,
+            1,
+            &TWO_STEPS,
+        ),
+        clear(
+            b"\xC8\x83\x04\x02\x00\x00\x00\x00\x00\x00\x00\
+              \x03\x06\x00\x00\x00\x01\x00\x01\x01\x20\x03\x01\x03\x10\x02\x00",
+        ),
+        clear(
+            b"\xC8\x83\x08\x01\x00\x00\x00\x00\x00\x00\x00\
+              \x03\x06\x00\x00\x00\x01\x00\x01\x01\x20\x03\x01\x03\x10\x02\x00",
+        ),
+        found(
+            b"\xC8\x83\x0C\x01\x00\x00\x00\x00\x00\x00\x00\x01\x00\x00\x00\x00\x00\x00\x00\
+              \x03\x06\x00\x00\x00\x01\x00\x01\x01\x20\x03\x02\x03\x10\x02\x00\x02\x20\x00",
+            2,
+            1,
+            &[0, 0, 0, 1, 1, 0, 1, 1, 2, 2],
+        ),
+        found(
+            b"\xC8\x83\x05\x00\x01\x00\x00\x00\x00\x00\x00\x00\
+              \x03\x06\x00\x00\x00\x01\x00\x01\x01\x20\x03\x01\x03\x10\x02\x00",
+            3,
+            1,
+            &PUSHED,
+        ),
+    ])
 }
 
 // Depths: both stacks grow, B's more; B's grows, shrinks and grows again; and two shortest schedules with unlike depths, of which the first
 // counts.
 fn depths() -> Tally {
-    let mut t = Tally::new();
-    t = t.counted(found(
-        b"\xC8\x03\x01\x07\x00\x01\x00\x00\x02\x07\x10\x02\x00\x00\x07\x20\x03\x00\x00",
-        2,
-        3,
-        &[0, 0, 1, 0, 1, 1],
-    ));
-    t = t.counted(found(
-        b"\x88\x03\x03\x07\x00\x01\x00\x00\x01\x10\x02\x07\x20\x03\x00\x00",
-        1,
-        2,
-        &[1, 0, 1, 1, 1, 2],
-    ));
-    t.counted(found(
-        b"\x48\x01\x02\x03\x00\x01\x00\x07\x00\x01\x00\x00",
-        1,
-        1,
-        &[0, 0],
-    ))
+    Tally::of(&[
+        found(
+            b"\xC8\x03\x01\x07\x00\x01\x00\x00\x02\x07\x10\x02\x00\x00\x07\x20\x03\x00\x00",
+            2,
+            3,
+            &[0, 0, 1, 0, 1, 1],
+        ),
+        found(
+            b"\x88\x03\x03\x07\x00\x01\x00\x00\x01\x10\x02\x07\x20\x03\x00\x00",
+            1,
+            2,
+            &[1, 0, 1, 1, 1, 2],
+        ),
+        found(
+            b"\x48\x01\x02\x03\x00\x01\x00\x07\x00\x01\x00\x00",
+            1,
+            1,
+            &[0, 0],
+        ),
+    ])
 }
 
-// Stores of just the size needed, and one byte less; models that no record holds: no states at all, a thread with 65 rules, a top that is
-// no symbol, a mark on rule 63 of a thread with fewer rules, a symbol count of 0 and of 17, a symbol at the count, in A's rules, as B's top
-// and beside such a mark, and a last rule that is below the one before it, in A, in B, and beside such a mark: Two with one rule more,
-// which is blank.
-fn limits() -> Tally {
-    let two = vectors::TWO;
-    let once = vectors::TWO_ONCE;
-    let mut t = Tally::new();
-    t = t.counted(cases::fits(&two, cases::found(4, 2, 1), &TWO_STEPS, 43));
-    t = t.counted(cases::fits(&once, cases::clear(), &[], 3));
-    t = t.counted(cases::fits(
-        b"\xCA\x03\x03\x02\x01\x00\x01\x01\x20\x03\x01\x03\x10\x02\x00",
-        cases::clear(),
-        &[],
-        683,
-    ));
-    t = t.counted(clear(&MANY));
-    let reading = record::read(&MANY);
-    let m = reading.model;
-    t = t.counted(cases::refuses(cases::with_a(m, 65), 4));
-    t = t.counted(cases::refuses(cases::with_b(m, 65), 4));
-    t = t.counted(cases::refuses(cases::with_top_a(m, 16), 3));
-    t = t.counted(cases::refuses(cases::with_top_b(m, 16), 3));
-    t = t.counted(cases::refuses(cases::with_a(cases::with_marks_a(m, 128), 63), 11));
-    t = t.counted(cases::refuses(cases::with_marks_b(m, 128), 11));
-    t = t.counted(cases::refuses(cases::with_symbols_a(m, 0), 3));
-    t = t.counted(cases::refuses(cases::with_symbols_b(m, 17), 3));
-    t = t.counted(cases::refuses(cases::with_symbols_a(m, 15), 17));
-    t = t.counted(cases::refuses(cases::with_symbols_b(cases::with_top_b(m, 5), 5), 17));
-    t = t.counted(cases::refuses(cases::with_symbols_a(cases::with_marks_b(m, 128), 15), 11));
-    let short = record::read(&two);
-    let n = short.model;
-    t = t.counted(cases::refuses(cases::with_a(n, 4), 13));
-    t = t.counted(cases::refuses(cases::with_b(n, 2), 13));
-    t = t.counted(cases::refuses(cases::with_a(cases::with_marks_b(n, 128), 4), 13));
-    let empty = record::read(&[]);
-    t.counted(cases::refuses(empty.model, 3))
+// Stores of just the size needed, and one byte less; and a model with 64 rules.
+fn stores() -> Tally {
+    let long = b"\xCA\x03\x03\x02\x01\x00\x01\x01\x20\x03\x01\x03\x10\x02\x00";
+    Tally::of(&[
+        compare::fits(
+            &vectors::TWO,
+            compare::found(2, 1, &TWO_STEPS),
+            &TWO_STEPS,
+            43,
+        ),
+        compare::fits(&vectors::TWO_ONCE, Verdict::Clear, &[], 3),
+        compare::fits(long, Verdict::Clear, &[], 683),
+        clear(&MANY),
+    ])
 }
 
-// The case at a place of a file: a record with its length, its verdict, its steps in two bytes, the line table with its length, the depths
-// of A and B in two bytes each, and the least schedule with its length.
-fn case_at(s: &[u8], at: usize) -> Case {
-    let end = vectors::past(s, at);
-    let to = vectors::past(s, end + 3);
-    let known = Known {
-        kind: vectors::byte_at(s, end),
-        steps: vectors::number_at(s, end + 1),
-        a: vectors::number_at(s, to),
-        b: vectors::number_at(s, to + 2),
-    };
-    let bytes = vectors::part(s, at);
-    let table = vectors::part(s, end + 3);
-    let least = vectors::part(s, to + 4);
-    Case {
-        agrees: cases::agrees(bytes, known, table, least),
-        next: vectors::past(s, to + 4),
+// A model with a change of A, or of B, is refused by this number.
+fn refuses<F: FnOnce(&mut Thread)>(m: Model, id: ThreadId, change: F, number: u8) -> bool
+    requires { F.IsAlwaysCallable change }
+{
+    compare::refuses(vectors::with(m, id, change), number)
+}
+
+// Models that no record holds: a thread with 65 rules, a top that is no symbol, a mark on rule 63 of a thread with fewer rules, a symbol
+// count of 0 and of 17, a symbol at the count, in A's rules, as B's top and beside such a mark, and a last rule that is below the one
+// before it, in A, in B, and beside such a mark: Two with one rule more, which is blank; and no states at all.
+fn counts() -> Tally {
+    let (a, b) = (ThreadId::A, ThreadId::B);
+    let m = vectors::model_of(&MANY);
+    let two = vectors::model_of(&vectors::TWO);
+    let marked = vectors::with(m, b, |t| t.held[7] = 128);
+    let two_marked = vectors::with(two, b, |t| t.held[7] = 128);
+    Tally::of(&[
+        refuses(m, a, |t| t.count = 65, 4),
+        refuses(m, b, |t| t.count = 65, 4),
+        refuses(m, a, |t| t.top = Some(Symbol(16)), 3),
+        refuses(m, b, |t| t.top = Some(Symbol(16)), 3),
+        refuses(
+            vectors::with(m, a, |t| t.held[7] = 128),
+            a,
+            |t| t.count = 63,
+            11,
+        ),
+        compare::refuses(marked, 11),
+        refuses(m, a, |t| t.symbols = 0, 3),
+        refuses(m, b, |t| t.symbols = 17, 3),
+        refuses(m, a, |t| t.symbols = 15, 17),
+        refuses(
+            vectors::with(m, b, |t| t.top = Some(Symbol(5))),
+            b,
+            |t| t.symbols = 5,
+            17,
+        ),
+        refuses(marked, a, |t| t.symbols = 15, 11),
+        refuses(two, a, |t| t.count = 4, 13),
+        refuses(two, b, |t| t.count = 2, 13),
+        refuses(two_marked, a, |t| t.count = 4, 13),
+        compare::refuses(model::zero_model(), 3),
+    ])
+}
+
+// The verdict that a file's number of a kind stands for, Found with these steps and depths.
+fn verdict(kind: u8, steps: usize, depths: Depths) -> Option<Verdict> {
+    match kind {
+        0 => Some(Verdict::Clear),
+        1 => Some(Verdict::Long),
+        2 => Some(Verdict::Found(steps as u64, depths)),
+        _ => None,
     }
 }
 
-// One case of a file after another.
-fn corpus(s: &[u8]) -> Tally {
-    let mut t = Tally::new();
-    let mut at = 0;
-    while at < s.len() {
-        let c = case_at(s, at);
-        t = t.counted(c.agrees);
-        if c.next <= at {
-            return t;
-        }
-        at = c.next;
+// A case of a file: a record with its length, its verdict, its steps in two bytes, the line table with its length, the depths of A and B in
+// two bytes each, and the least schedule with its length.
+fn case(cases: &mut Cases) -> bool {
+    let bytes = cases.part();
+    let kind = cases.byte();
+    let steps = cases.number();
+    let table = cases.part();
+    let a = cases.number();
+    let b = cases.number();
+    let least = cases.part();
+    match verdict(kind, steps, Depths { a, b }) {
+        Some(verdict) => compare::agrees(bytes, verdict, table, least),
+        None => false,
     }
-    t
-}
-
-// The cases of a file, which the store has room for.
-fn file(rt: &(impl Files + Print + Eprint), name: &[u8], store: &mut [u8]) -> io::Result<()> {
-    let n = vectors::load(rt, name, store);
-    corpus(&store[0..n]).report(rt, name)
 }
 
 // The files: the models of bindings/cases.txt with tops, and those that double their steps, nest deepest and take longest; models with
 // several shortest schedules; then random ones.
-fn files(rt: &(impl Files + Print + Eprint + Alloc)) -> io::Result<()> {
-    let mut store = vec![in rt.alloc(); 0u8; 610000]?;
-    file(rt, b"tops.bin", &mut store)?;
-    file(rt, b"deep.bin", &mut store)?;
-    file(rt, b"ties.bin", &mut store)?;
-    file(rt, b"verdicts-1.bin", &mut store)?;
-    file(rt, b"verdicts-2.bin", &mut store)?;
-    file(rt, b"verdicts-3.bin", &mut store)
-}
+const FILES: [&str; 6] = [
+    "tops.bin",
+    "deep.bin",
+    "ties.bin",
+    "verdicts-1.bin",
+    "verdicts-2.bin",
+    "verdicts-3.bin",
+];
 
 fn main(rt: HostRuntime) -> io::Result<()> {
-    document().report(&rt, b"document 01")?;
-    tops().report(&rt, b"tops")?;
-    held().report(&rt, b"held rules")?;
-    depths().report(&rt, b"depths")?;
-    limits().report(&rt, b"stores and counts")?;
-    files(&rt)
+    document().report(&rt, "document 01")?;
+    tops().report(&rt, "tops")?;
+    held_in_one().and(held_in_two()).report(&rt, "held rules")?;
+    depths().report(&rt, "depths")?;
+    stores().and(counts()).report(&rt, "stores and counts")?;
+    let mut store = vec![in rt.alloc(); 0u8; 610000]?;
+    for name in FILES {
+        vectors::file(&rt, name, &mut store, case)?;
+    }
+    Ok(())
 }

@@ -22,12 +22,11 @@ use Rattle.model.specs.Walk.{thread_of, Config, Step, Walked, start_of, step_fro
 use Rattle.model.proofs.Checks.{both_pass}
 use Rattle.model.proofs.Inside.{fits_of}
 use Rattle.model.proofs.Ranges.{valid_fits}
-use Rattle.model.proofs.Results.{accepted_same, checked, through, undue}
+use Rattle.model.proofs.Results.{accepted_same, apart, checked, through, undue}
 use Rattle.model.proofs.Steps.{stepped}
-use Rattle.replay.specs.declared.Replayed.TheVariants as replayed
 use Rattle.replay.specs.Replay.{replay_of}
 use Rattle.replay.proofs.Accepts.{accepts, free}
-use Rattle.logs.specs.declared.Followed.TheVariants.{Accepted}
+use Rattle.logs.specs.declared.Followed.{Followed}
 use Rattle.logs.specs.Log.{bytes_from, rounds_by, size_refusal, followed_by, followed_of}
 use Rattle.logs.specs.Placings.{log_of, in_rounds, Placing, Fewest}
 use Rattle.logs.proofs.Behind.{Behind, all_behind}
@@ -65,13 +64,12 @@ within m (s ∷ ss) c e =
     omega (arith, ends_below m ss gone.0 (rw p.come p.early) gone.2)
 
 -- What is accepted was followed to its last state.
-followed_to : (n : ℕ) (w : Walked) {q : Shared} {k : ℕ} → followed_by n w ≡ Accepted q k
-    → (c : Config) × (w ≡ accepted c) × (c.shared ≡ q.0) × (rounds_by n c.turn ≡ k)
-followed_to n (refused j) {q} {k} e = absurd (let z : ◌≡◌ {A = ℕ} 0 1 = cc in omega arith)
-followed_to n (accepted c) {q} {k} e =
-    let shared : record { 0 = c.shared } ≡ q = cc in
-    let rounds : rounds_by n c.turn ≡ k = cc in
-    (c, refl, ap (λ (s : Shared). s.0) shared, rounds)
+followed_to : (n : ℕ) (w : Walked) {f : Followed} → followed_by n w ≡ accepted f
+    → (c : Config) × (w ≡ accepted c) × (c.shared ≡ f.shared.0) × (rounds_by n c.turn ≡ f.rounds)
+followed_to n (refused j) e = apart e
+followed_to n (accepted c) {f} e =
+    let same : record { shared = record { 0 = c.shared }; rounds = rounds_by n c.turn } ≡ f = accepted_same e in
+    (c, refl, rw (← same) refl, rw (← same) refl)
 
 -- A walk from the start leads to its last state.
 leads_to : (m : Model) (ss : List Step) {d : Config} {q : ℕ} → walk m (start_of m) ss ≡ accepted d → d.shared ≡ q → Leads m ss q d.stacks
@@ -96,7 +94,7 @@ module _ (m : Model) (log : List ℕ) (v : Valid m) {r p : ℕ} {ss : List Step}
       (b.0, rw x.logged at b.1, b.2.shared, rw x.logged at most)
 
 -- What is accepted has a placing in so many rounds, and all placings agree with it ..
-accepted_fewest : (m : Model) (log : List ℕ) (q : Shared) (n : ℕ) → Bytes log → followed_of m log ≡ Accepted q n → Fewest m log q.0 n
+accepted_fewest : (m : Model) (log : List ℕ) (q : Shared) (n : ℕ) → Bytes log → followed_of m log ≡ accepted (record { shared = q; rounds = n }) → Fewest m log q.0 n
 unfolding followed_of first_of
 accepted_fewest m log q n small e =
     let w = followed_to (length log) (unless (size_refusal m log) (bytes_from m (start_of m) log)) e in
@@ -121,12 +119,12 @@ accepted_fewest m log q n small e =
     }
 
 -- .. and a log with a placing is accepted.
-fewest_accepted : (m : Model) (log : List ℕ) (q : Shared) (n : ℕ) → Bytes log → Fewest m log q.0 n → followed_of m log ≡ Accepted q n
+fewest_accepted : (m : Model) (log : List ℕ) (q : Shared) (n : ℕ) → Bytes log → Fewest m log q.0 n → followed_of m log ≡ accepted (record { shared = q; rounds = n })
 unfolding followed_of first_of
 fewest_accepted m log q n small f =
     let g = follows m log f.valid f.placing in
     let rounds = rounds_by (length log) g.0.turn in
-    let taken : followed_of m log ≡ Accepted (record { 0 = g.0.shared }) rounds = rw (f.valid, le-leb _ _ f.most, g.1) in
+    let taken : followed_of m log ≡ accepted (record { shared = record { 0 = g.0.shared }; rounds = rounds }) = rw (f.valid, le-leb _ _ f.most, g.1) in
     let own = accepted_fewest m log (record { 0 = g.0.shared }) rounds small taken in
     let less : n ≤ rounds = (f.least rounds own.steps g.0.shared own.placing).0 in
     let same : rounds ≡ n = omega (arith, less, g.3) in
@@ -134,7 +132,7 @@ fewest_accepted m log q n small f =
 
 -- A log, whose numbers are bytes as its type says, is accepted exactly where it has placings: with the state that all of them lead to, and
 -- with the rounds of one of which no other has fewer.
-pub fewest : (m : Model) (log : List ℕ) (q : Shared) (n : ℕ) → Bytes log → (followed_of m log ≡ Accepted q n) ↔ Fewest m log q.0 n
+pub fewest : (m : Model) (log : List ℕ) (q : Shared) (n : ℕ) → Bytes log → (followed_of m log ≡ accepted (record { shared = q; rounds = n })) ↔ Fewest m log q.0 n
 fewest m log q n small = (accepted_fewest m log q n small, fewest_accepted m log q n small)
 
 -- A walk within n rounds is one within more.
@@ -153,7 +151,8 @@ wider m n (s ∷ ss) c h e =
 -- A placing of an accepted log within K rounds is a schedule that replay accepts, with the same last state.
 pub replays : {m : Model} {log : List ℕ} {n q : ℕ} {ss : List Step} → Valid m → length log ≤ most_steps
     → (x : Placing m log n ss q) → n ≤ m.k
-    → replay_of m (bytes_of ss) ≡ replayed.Accepted (record { 0 = q }) (at_target m q x.stacks) (depths_of m ss)
+    → replay_of m (bytes_of ss)
+    ≡ accepted (record { shared = record { 0 = q }; reached = at_target m q x.stacks; depths = depths_of m ss })
 replays {m} {log} {n} {q} {ss} v h x k =
     (accepts m (bytes_of ss) (record { 0 = q }) (at_target m q x.stacks) (depths_of m ss)).1 (record {
       valid = v;
@@ -167,8 +166,8 @@ replays {m} {log} {n} {q} {ss} v h x k =
     })
 
 -- So a log that takes at most K rounds has a placing that replay accepts, with the state that was given for the log.
-pub log_replays : (m : Model) (log : List ℕ) (q : Shared) (n : ℕ) → Bytes log → followed_of m log ≡ Accepted q n → n ≤ m.k
-    → (ss : List Step) × (log_of ss ≡ log) × (reached : Bool) × (replay_of m (bytes_of ss) ≡ replayed.Accepted q reached (depths_of m ss))
+pub log_replays : (m : Model) (log : List ℕ) (q : Shared) (n : ℕ) → Bytes log → followed_of m log ≡ accepted (record { shared = q; rounds = n }) → n ≤ m.k
+    → (ss : List Step) × (log_of ss ≡ log) × (reached : Bool) × (replay_of m (bytes_of ss) ≡ accepted (record { shared = q; reached = reached; depths = depths_of m ss }))
 log_replays m log q n small e k =
     let f = accepted_fewest m log q n small e in
     let x = f.placing in

@@ -19,8 +19,6 @@ use Rattle.logs.proofs.Earliest.{next_most}
 -- Where the walk is before byte i, and that the rest of the log comes to what the whole does.
 pub record Going (m : Model) (l : List ℕ) (w : Walk) (a b : List ℕ) (v : Walk) (c d : List ℕ) (i : ℕ) : Type 0 where
   pub place : i ≤ length l
-  pub first : length c ≡ length a
-  pub second : length d ≡ length b
   pub one : v.a ≤ w.a + i
   pub two : v.b ≤ w.b + i
   pub turn : v.turn ≤ w.turn + i
@@ -31,15 +29,13 @@ module _ {m : Model} {l : List ℕ} {w : Walk} {a b : List ℕ} {v : Walk} {c d 
   -- A byte that is accepted leaves the others ..
   pub goes_on : i < length l → {u : Walk} {c' d' : List ℕ}
       → accepted (config_of u c' d') ≡ byte_from m (config_of v c d) (get_or l i 0)
-      → (u.a ≤ v.a + 1) × (u.b ≤ v.b + 1) → length c' ≡ length c → length d' ≡ length d
+      → (u.a ≤ v.a + 1) × (u.b ≤ v.b + 1)
       → Going m l w a b u c' d' (i + 1)
   unfolding bytes_from
-  goes_on h {u} {c'} {d'} p k x y =
+  goes_on h {u} {c'} {d'} p k =
       let t = (taken m (config_of v c d) (get_or l i 0) (sym p)).turn in
       record {
         place = omega arith;
-        first = x ∙ g.first;
-        second = y ∙ g.second;
         one = omega arith;
         two = omega arith;
         turn = omega (arith, t, next_most v.turn (get_or l i 0 / 128), g.turn);

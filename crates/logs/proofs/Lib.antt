@@ -1,4 +1,3 @@
-pub mod Answers
 pub mod Behind
 pub mod Bytes
 pub mod Determined

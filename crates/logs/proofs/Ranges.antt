@@ -8,14 +8,13 @@ use lib.Dec.{T, leb, eqb, leb→le}
 use lib.ListN.{length}
 use Rattle.model.specs.declared.Model.{Model}
 use Rattle.model.specs.Fits.{Fits}
-use Rattle.model.specs.Results.{refused, accepted, unless, refuse, first_of}
+use Rattle.model.specs.Results.{Result, refused, accepted, unless, refuse, first_of}
 use Rattle.model.specs.Schedules.{most_steps}
 use Rattle.model.specs.Valid.{Valid}
 use Rattle.model.specs.Walk.{Config, Walked, start_of}
 use Rattle.model.proofs.Ranges.{valid_fits}
 use Rattle.replay.proofs.Ranges.{WalkEnds, tested, onward, made_ends}
 use Rattle.logs.specs.declared.Followed.{Followed}
-use Rattle.logs.specs.declared.Followed.TheVariants.{Accepted, Refused}
 use Rattle.logs.specs.Log.{step_by, byte_from, bytes_from, followed_by, followed_of}
 use Rattle.logs.proofs.Bytes.{rounds_most}
 use Rattle.logs.proofs.Placed.{turn_range}
@@ -29,9 +28,9 @@ bytes_end {m} f (byte ∷ bytes) c h =
     (λ d k. bytes_end f bytes d k)
 
 -- The answer for a valid model: a refusal from 1 to 18, or a state below g and at most 2,048 rounds.
-abbrev pub Ends : ℕ → Followed → Type 0
-Ends g (Refused n) = (1 ≤ n) × (n ≤ 18)
-Ends g (Accepted q n) = (q.0 < g) × (n ≤ 2048)
+abbrev pub Ends : ℕ → Result Followed → Type 0
+Ends g (refused n) = (1 ≤ n) × (n ≤ 18)
+Ends g (accepted f) = (f.shared.0 < g) × (f.rounds ≤ 2048)
 
 pub follow_ends : (m : Model) (log : List ℕ) → Valid m → Ends m.g (followed_of m log)
 unfolding followed_of first_of

@@ -2,12 +2,11 @@
 -- context switches. It has a byte for each step: bit 7 is set for B, bit 6 is zero, and below them stands the number of the rule.
 use Rattle.std.specs.Prelude.{not, List, [], ◌∷◌, ℕ, zero, suc, ◌+◌, ◌/◌, ◌%◌, leb, eqb, length}
 use Rattle.model.specs.declared.Model.{Model}
-use Rattle.model.specs.Results.{refused, accepted, need, and_then, unless, refuse, first_of}
+use Rattle.model.specs.Results.{Result, refused, accepted, need, and_then, unless, refuse, first_of}
 use Rattle.model.specs.Schedules.{most_steps}
 use Rattle.model.specs.Valid.{fault_of}
 use Rattle.model.specs.Walk.{Config, Step, Walked, start_of, made}
 use Rattle.logs.specs.declared.Followed.{Followed}
-use Rattle.logs.specs.declared.Followed.TheVariants.{Accepted, Refused}
 
 -- The earliest turn from a given one on whose number is even, for 0, or odd, for 1: the same turn, or the next.
 unfoldable pub earliest : ℕ → ℕ → ℕ
@@ -36,11 +35,11 @@ abbrev pub size_refusal : Model → List ℕ → ℕ
 size_refusal m log = first_of (fault_of m ∷ refuse 18 (leb (length log) most_steps) ∷ [])
 
 -- What a log of so many bytes says by its end: the last shared state and the rounds, or the refusal.
-abbrev pub followed_by : ℕ → Walked → Followed
-followed_by n (refused k) = Refused k
-followed_by n (accepted c) = Accepted (record { 0 = c.shared }) (rounds_by n c.turn)
+abbrev pub followed_by : ℕ → Walked → Result Followed
+followed_by n (refused k) = refused k
+followed_by n (accepted c) = accepted (record { shared = record { 0 = c.shared }; rounds = rounds_by n c.turn })
 
 -- The answer: what is refused before the first byte, or what the bytes from the start come to. Its rounds are the fewest that any placing
 -- of the log has (a law).
-unfoldable pub followed_of : Model → List ℕ → Followed
+unfoldable pub followed_of : Model → List ℕ → Result Followed
 followed_of m log = followed_by (length log) (unless (size_refusal m log) (bytes_from m (start_of m) log))

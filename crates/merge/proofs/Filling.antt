@@ -5,18 +5,20 @@ use mathlib.Core.Path.{◌≡◌, refl, sym, ap, fun_ext, ◌∙◌}
 use Prim.Native.Nat.{ℕ, zero, suc, ◌+◌, ◌-◌, ◌<◌}
 use native.Mathlib.Numerals.{add-one}
 use native.Mathlib.Omega.{arith}
-use lib.Dec.{T}
+use lib.Dec.{leb}
 use lib.ListN.{length, take, set, get_or, replicate, length-append}
 use lib.Seq.{take-suc-set}
 use borrow.Author.Tests.{le-leb, lt-leb}
 use Rattle.model.specs.declared.Rule.{Rule}
 use Rattle.model.specs.declared.Thread.{Thread}
+use Rattle.model.specs.Results.{refused, accepted, need}
 use Rattle.model.specs.Rules.{zero_rule}
 use Rattle.model.specs.Zero.{Padded, in_places}
 use Rattle.model.proofs.Padded.{counts, fills, padded_none, padded_more}
+use Rattle.model.proofs.Results.{accepted_same, apart}
 use Rattle.merge.specs.declared.Filled.{Filled}
 use Rattle.merge.specs.Answer.{bytes_from, flag_at, thread_with}
-use Rattle.merge.specs.Joining.{Fills}
+use Rattle.merge.specs.Joining.{filled_with, filling_of}
 use Rattle.merge.specs.Union.{Entry}
 
 -- So many of 64 places hold a list, and the others are zero.
@@ -68,30 +70,19 @@ module _ {es rest : List Entry} {count : ℕ} {rules : List Rule} {held : List B
       })
 
   -- .. until there is no room for it ..
-  pub no_room : {x : Entry} {more : List Entry} → rest ≡ x ∷ more → count ≡ 64
-      → Fills es (record { fits = false; count = count; rules = rules; held = held })
+  pub no_room : {x : Entry} {more : List Entry} → rest ≡ x ∷ more → count ≡ 64 → refused 16 ≡ filling_of es
   no_room {x} {more} e h =
       let long = length-append f.done (x ∷ more) in
       let size : length es ≡ length (f.done ++ (x ∷ more)) = sym (ap length (rw e at f.whole)) in
-      record {
-        fits = sym (lt-leb (length es) 64 (omega (arith, long, size, f.size)));
-        count = λ t. absurd t;
-        rules = λ t. absurd t;
-        held = λ t. absurd t;
-      }
+      rw (lt-leb (length es) 64 (omega (arith, long, size, f.size))) refl
 
   -- .. or all are in.
-  pub all_filled : rest ≡ [] → Fills es (record { fits = true; count = count; rules = rules; held = held })
+  pub all_filled : rest ≡ [] → accepted (record { count = count; rules = rules; held = held }) ≡ filling_of es
   all_filled e =
       let all : f.done ≡ es = sym (append-nil f.done) ∙ rw e at f.whole in
       let low = f.places.padded.low in
       let size : length es ≡ count = rw all at f.size in
-      record {
-        fits = sym (le-leb (length es) 64 (omega arith));
-        count = λ t. sym size;
-        rules = λ t. rw all at (holds_all f.places);
-        held = λ t. rw all at (holds_all f.marks);
-      }
+      rw (le-leb (length es) 64 (omega arith), size, rw all at (holds_all f.places), rw all at (holds_all f.marks)) refl
 
 -- Zero places behind a list of flags are no flags.
 padded_flag : (l : List Bool) (k p : ℕ) → get_or (l ++ replicate k false) p false ≡ get_or l p false
@@ -106,14 +97,13 @@ unfolding flag_at
 padded_flags l = fun_ext (padded_flag l (64 - length l))
 
 -- A thread with what was filled in is the one with the rules of the list.
-pub thread_filled : (t : Thread) (es : List Entry) (x : Filled) → Fills es x → T x.fits
-    → record {
-      symbols = t.symbols;
-      first = t.first;
-      top = t.top;
-      held = bytes_from (flag_at x.held) 0 8;
-      count = x.count;
-      rules = x.rules;
-    }
-    ≡ thread_with t es
-thread_filled t es x f ok = rw (f.held ok, f.count ok, f.rules ok, padded_flags (map (λ e. e.held) es)) refl
+pub thread_filled : (t : Thread) (es : List Entry) (x : Filled) → accepted x ≡ filling_of es
+    → accepted (record t { held = bytes_from (flag_at x.held) 0 8; count = x.count; rules = x.rules })
+    ≡ need 16 (leb (length es) 64) (accepted (thread_with t es))
+thread_filled t es x e = go (leb (length es) 64) e
+  where
+    go : (room : Bool) → accepted x ≡ need 16 room (accepted (filled_with es))
+        → accepted (record t { held = bytes_from (flag_at x.held) 0 8; count = x.count; rules = x.rules })
+        ≡ need 16 room (accepted (thread_with t es))
+    go true h = rw (accepted_same h, padded_flags (map (λ e. e.held) es)) refl
+    go false h = apart (sym h)

@@ -11,8 +11,9 @@ use lib.ListN.{length, replicate, length-map, get_or-eq_default}
 use lib.Seq.{drop_at}
 use Rattle.model.specs.declared.Model.{Model}
 use Rattle.model.specs.declared.Thread.{Thread}
-use Rattle.model.specs.declared.Top.TheVariants.{Any, Named}
-use Rattle.model.specs.declared.Top.{Top}
+use Rattle.std.specs.Prelude.{None}
+use Rattle.std.specs.Prelude as option
+use Rattle.model.specs.Tops.{Top}
 use Rattle.model.specs.Fits.{RightBelow, RuleFits, ThreadFits}
 use Rattle.model.specs.Results.{first_of}
 use Rattle.model.specs.Rules.{zero_rule, rule_at}
@@ -122,10 +123,10 @@ module _ {g : ℕ} (t u : Thread) (low : g ≤ 16) (f : ThreadFits g t) (k : Thr
 -- What tests of equal tops and equal head fields say.
 same_top_lem : (x y : Top) → T (same_top x y) → x ≡ y
 unfolding same_top
-same_top_lem Any Any h = refl
-same_top_lem Any (Named s) h = absurd h
-same_top_lem (Named s) Any h = absurd h
-same_top_lem (Named s) (Named t) h = let e = (equal s.0 t.0).0 h in ap (λ n. Named (record { 0 = n })) e
+same_top_lem None None h = refl
+same_top_lem None (option.Some s) h = absurd h
+same_top_lem (option.Some s) None h = absurd h
+same_top_lem (option.Some s) (option.Some t) h = let e = (equal s.0 t.0).0 h in ap (λ n. option.Some (record { 0 = n })) e
 
 same_fields_lem : (t u : Thread) → T (same_fields t u) → SameFields t u
 unfolding same_fields

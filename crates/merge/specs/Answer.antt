@@ -1,27 +1,24 @@
 -- What the call that merges two models answers: the first refusal that is due, or the two made one; and what that one is to each of them.
 use Rattle.std.specs.Prelude.{Bool, true, false, not, ◌&&◌, List, [], ◌∷◌, map, ◌⊎◌, ℕ, zero, suc, ◌+◌, ◌*◌, ◌<◌, leb, eqb, length, get_or}
+use Rattle.std.specs.Prelude.{None, Some}
 use Rattle.model.specs.declared.Model.{Model}
 use Rattle.model.specs.declared.Thread.{Thread}
-use Rattle.model.specs.declared.Top.TheVariants.{Any, Named}
-use Rattle.model.specs.declared.Top.{Top}
+use Rattle.model.specs.Tops.{Top}
 use Rattle.model.specs.Bits.{one_if}
-use Rattle.model.specs.Results.{refuse, first_of}
+use Rattle.model.specs.Results.{Result, refused, accepted, unless, refuse, first_of}
 use Rattle.model.specs.Rules.{zero_rule, rule_at}
 use Rattle.model.specs.UpToOrder.{RuleOf}
 use Rattle.model.specs.Valid.{fault_of, Valid}
-use Rattle.model.specs.Zero.{in_places, Unused, zero_model}
-use Rattle.merge.specs.declared.Merged.TheVariants.{Done, Refused}
-use Rattle.merge.specs.declared.Merged.{Merged}
-use Rattle.merge.specs.declared.Merging.{Merging}
+use Rattle.model.specs.Zero.{in_places, Unused}
 use Rattle.merge.specs.Parts.{Part, Carries}
 use Rattle.merge.specs.Union.{Entry, union_of, clash}
 
 -- Two tops ask for the same: none is named, or the same symbol is.
 unfoldable pub same_top : Top → Top → Bool
-same_top Any Any = true
-same_top Any (Named s) = false
-same_top (Named s) Any = false
-same_top (Named s) (Named t) = eqb s.0 t.0
+same_top None None = true
+same_top None (Some s) = false
+same_top (Some s) None = false
+same_top (Some s) (Some t) = eqb s.0 t.0
 
 -- Two threads have the same head fields: symbol count, first symbol and top.
 unfoldable pub same_fields : Thread → Thread → Bool
@@ -96,14 +93,9 @@ made_one m n =
       b = thread_with m.b (union_of m.b n.b);
     }
 
--- The answer by the refusal that is due: the model beside it is that one, or all zero.
-abbrev pub merging_by : ℕ → Model → Merging
-merging_by zero m = record { answer = Done; model = m }
-merging_by (suc n) m = record { answer = Refused (suc n); model = zero_model }
-
--- The answer of the call.
-unfoldable pub merging_of : Model → Model → Merging
-merging_of m n = merging_by (merge_fault m n) (made_one m n)
+-- The answer of the call: the refusal that is due, or with none both made one.
+unfoldable pub merging_of : Model → Model → Result Model
+merging_of m n = unless (merge_fault m n) (accepted (made_one m n))
 
 -- Each rule of a thread is a rule of one of two others.
 abbrev pub OfEither : Thread → Thread → Thread → Type 0
@@ -123,10 +115,6 @@ pub record MadeOf (m n whole : Model) : Type 0 where
   pub carries_second : Carries n whole
 
 -- What an answer promises: a model that was made is made of those two.
-abbrev pub made_by : Model → Model → Merged → Model → Type 0
-made_by m n Done whole = MadeOf m n whole
-made_by m n (Refused k) whole = Unit {0}
-
--- The same of the answer with its model.
-abbrev pub Makes : Model → Model → Merging → Type 0
-Makes m n r = made_by m n r.answer r.model
+abbrev pub Makes : Model → Model → Result Model → Type 0
+Makes m n (accepted whole) = MadeOf m n whole
+Makes m n (refused k) = Unit {0}

@@ -1,11 +1,11 @@
 -- What the functions that join two threads' rules are asked for and answer, part by part.
-use Rattle.std.specs.Prelude.{false, List, ◌∷◌, map, ◌≡◌, ℕ, suc, ◌+◌, ◌-◌, ◌≤◌, ◌<◌, T, leb, length}
+use Rattle.std.specs.Prelude.{false, List, ◌∷◌, map, ◌≡◌, ℕ, suc, ◌+◌, ◌-◌, ◌≤◌, ◌<◌, leb, length}
 use Rattle.model.specs.declared.Thread.{Thread}
 use Rattle.model.specs.Order.{key_of}
+use Rattle.model.specs.Results.{Result, accepted, need}
 use Rattle.model.specs.Rules.{zero_rule, rule_at}
 use Rattle.model.specs.Zero.{in_places}
 use Rattle.merge.specs.declared.Filled.{Filled}
-use Rattle.merge.specs.declared.Joined.{Joined}
 use Rattle.merge.specs.declared.Next.{Next}
 use Rattle.merge.specs.Answer.{thread_with, room_for}
 use Rattle.merge.specs.Union.{Entry, entries_from, join, union_of}
@@ -34,14 +34,19 @@ pub record Nexts (t u : Thread) (i j : ℕ) (x : Next) : Type 0 where
   pub low_j : x.j ≤ u.count
   pub more : i + j < x.i + x.j
 
--- A list in places, where it has at most 64 rules.
-pub record Fills (es : List Entry) (x : Filled) : Type 0 where
-  pub fits : x.fits ≡ leb (length es) 64
-  pub count : T x.fits → x.count ≡ length es
-  pub rules : T x.fits → x.rules ≡ in_places zero_rule (map (λ e. e.rule) es)
-  pub held : T x.fits → x.held ≡ in_places false (map (λ e. e.held) es)
+-- The rules of a list in places, and which of them are held.
+abbrev pub filled_with : List Entry → Filled
+filled_with es =
+    record {
+      count = length es;
+      rules = in_places zero_rule (map (λ e. e.rule) es);
+      held = in_places false (map (λ e. e.held) es);
+    }
 
--- The thread of two threads' rules, where they have at most 64.
-pub record Joins (t u : Thread) (x : Joined) : Type 0 where
-  pub fits : x.fits ≡ room_for t u
-  pub thread : T x.fits → x.thread ≡ thread_with t (union_of t u)
+-- The answer with a list in places: 16 where it has more than 64 rules.
+abbrev pub filling_of : List Entry → Result Filled
+filling_of es = need 16 (leb (length es) 64) (accepted (filled_with es))
+
+-- The answer with the thread of two threads' rules: 16 where they have more than 64.
+abbrev pub joining_of : Thread → Thread → Result Thread
+joining_of t u = need 16 (room_for t u) (accepted (thread_with t (union_of t u)))

@@ -1,12 +1,13 @@
-// Two ascending lists of rules made one: each step takes the lower of the two first rules, and one that both have once.
-ghost use Rattle.std.specs.Prelude.{◌||◌, ◌≡◌, ◌+◌, ◌≤◌, ◌<◌};
-ghost use Rattle.model.specs.Bits.{one_if};
-ghost use Rattle.merge.specs.Answer.{bits_from, flag_at};
-ghost use Rattle.merge.specs.Joining.{Listed, next_with, Nexts, Fills, Joins};
+// Two ascending lists of rules made one: each step takes the lower of the two first rules, and one that both have once. `Listed` stays a
+// clause: a type for a listed thread would be made for two calls, and taken apart in each function.
+ghost use Rattle.std.specs.Prelude.{◌≡◌, ◌+◌, ◌≤◌, ◌<◌};
+ghost use Rattle.model.specs.Refusals.{told};
+ghost use Rattle.merge.specs.Answer.{bits_from, bytes_from, flag_at};
+ghost use Rattle.merge.specs.Joining.{Listed, next_with, Nexts, filling_of, joining_of};
 ghost use Rattle.merge.specs.Union.{entry_of, both, union_of, clash};
 
-use crate::{Filled, Joined, Next};
-use model::{Rule, Thread, ZERO_RULE};
+use crate::{Filled, Next};
+use model::{Refusal, Rule, Thread, ZERO_RULE};
 
 // Whether a rule is held in one of two threads and free in the other.
 pub fn has_clash(t: Thread, u: Thread) -> bool
@@ -16,12 +17,11 @@ pub fn has_clash(t: Thread, u: Thread) -> bool
     let total = t.count + u.count;
     let mut i = 0;
     let mut j = 0;
+    // a `while`, since a step goes on in one list or in both: an iterator over both lists would carry the same invariant in a type of its own
     while i + j < total {
         let x = next(t, u, i, j);
-        if x.held {
-            if x.free {
-                return true;
-            }
+        if x.held && x.free {
+            return true;
         }
         i = x.i;
         j = x.j;
@@ -30,41 +30,25 @@ pub fn has_clash(t: Thread, u: Thread) -> bool
 }
 
 // The thread of the rules of both, with the head fields of the first.
-pub fn join(t: Thread, u: Thread) -> Joined
+pub fn join(t: Thread, u: Thread) -> Result<Thread, Refusal>
     requires { Listed t × Listed u }
-    ensures { Joins t u result }
+    ensures { told result ≡ joining_of t u }
 {
-    let found = fill(t, u);
-    let held = found.held;
-    let first = t.first;
-    let top = t.top;
-    let rules = found.rules;
-    Joined {
-        fits: found.fits,
-        thread: Thread {
-            symbols: t.symbols,
-            first,
-            top,
-            held: [
-                byte_of(held, 0),
-                byte_of(held, 8),
-                byte_of(held, 16),
-                byte_of(held, 24),
-                byte_of(held, 32),
-                byte_of(held, 40),
-                byte_of(held, 48),
-                byte_of(held, 56),
-            ],
-            count: found.count,
-            rules,
-        },
-    }
+    let Filled { count, rules, held } = fill(t, u)?;
+    let held = bytes_of(held);
+    Ok(Thread {
+        held,
+        count,
+        rules,
+        ..t
+    })
 }
 
 // The rules of both in 64 places, and which of them are held.
-fn fill(t: Thread, u: Thread) -> Filled
+#[tactic(auto, using(crate::proofs::Filling::no_room))]
+fn fill(t: Thread, u: Thread) -> Result<Filled, Refusal>
     requires { Listed t × Listed u }
-    ensures { Fills (union_of t u) result }
+    ensures { told result ≡ filling_of (union_of t u) }
 {
     let total = t.count + u.count;
     let mut rules = [ZERO_RULE; 64];
@@ -72,50 +56,43 @@ fn fill(t: Thread, u: Thread) -> Filled
     let mut count = 0;
     let mut i = 0;
     let mut j = 0;
+    // a `while`, as above
     while i + j < total {
         let x = next(t, u, i, j);
         if count == 64 {
-            return Filled {
-                fits: false,
-                count,
-                rules,
-                held,
-            };
+            return Err(Refusal::ManyRules);
         }
-        let rule = x.rule;
-        rules[count] = rule;
+        rules[count] = x.rule;
         held[count] = x.held;
         count += 1;
         i = x.i;
         j = x.j;
     }
-    Filled {
-        fits: true,
-        count,
-        rules,
-        held,
+    Ok(Filled { count, rules, held })
+}
+
+// Flags as eight bytes, lowest bit first.
+fn bytes_of(flags: [bool; 64]) -> [u8; 8]
+    ensures { result ≡ bytes_from (flag_at flags) 0 8 }
+{
+    let mut bytes = [0u8; 8];
+    for i in 0..8 {
+        bytes[i] = byte_of(flags, 8 * i);
     }
+    bytes
 }
 
 // The byte of eight flags from place p on, lowest bit first.
+#[tactic(auto, using(crate::proofs::Packing::packs_none, crate::proofs::Packing::packs_more, crate::proofs::Packing::packs_room), unfolding(crate::specs::Answer::flag_at))]
 fn byte_of(flags: [bool; 64], p: usize) -> u8
     requires { p ≤ 56 }
     ensures { result ≡ bits_from (flag_at flags) p 8 }
 {
-    let mut byte: u8 = 0;
-    let mut taken: usize = 8;
-    while 0 < taken {
-        taken -= 1;
-        byte = 2 * byte + weight(flags[p + taken]);
+    let mut byte = 0u8;
+    for i in 0..8 {
+        byte = 2 * byte + u8::from(flags[p + 7 - i]);
     }
     byte
-}
-
-// 1 for a flag that stands, and else 0.
-fn weight(flag: bool) -> u8
-    ensures { (result ≡ one_if flag) × (result ≤ 1) }
-{
-    if flag { 1 } else { 0 }
 }
 
 // The first of the rules of both from numbers i and j on.
@@ -129,17 +106,15 @@ fn next(t: Thread, u: Thread, i: usize, j: usize) -> Next
     if u.count <= j {
         return alone(t, i, i + 1, j);
     }
-    let x = t.rules[i];
-    let y = u.rules[j];
-    let key_x = model::key(x);
-    let key_y = model::key(y);
-    if key_x < key_y {
-        return alone(t, i, i + 1, j);
+    let x = model::key(t.rules[i]);
+    let y = model::key(u.rules[j]);
+    if x < y {
+        alone(t, i, i + 1, j)
+    } else if y < x {
+        alone(u, j, i, j + 1)
+    } else {
+        shared(t, u, i, j)
     }
-    if key_y < key_x {
-        return alone(u, j, i, j + 1);
-    }
-    shared(t, u, i, j)
 }
 
 // Rule r of one thread, which the other lacks; i and j are the numbers after it.
@@ -164,19 +139,9 @@ fn shared(t: Thread, u: Thread, i: usize, j: usize) -> Next
 {
     let x = alone(t, i, i + 1, j + 1);
     let y = alone(u, j, i + 1, j + 1);
-    let rule = x.rule;
     Next {
-        rule,
-        held: either(x.held, y.held),
-        free: either(x.free, y.free),
-        i: x.i,
-        j: x.j,
+        held: x.held || y.held,
+        free: x.free || y.free,
+        ..x
     }
-}
-
-// Whether one of two tests or both pass.
-fn either(x: bool, y: bool) -> bool
-    ensures { result ≡ (x || y) }
-{
-    if x { true } else { y }
 }

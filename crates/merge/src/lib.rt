@@ -3,165 +3,77 @@
 #![tactic(auto)]
 
 ghost use Rattle.std.specs.Prelude.{◌≡◌};
-ghost use Rattle.merge.specs.Answer.{same_top, same_fields, same_head, parts_fault, clash_fault, size_fault};
-ghost use Rattle.merge.specs.Answer.{made_one, merging_by, merging_of, Makes};
+ghost use Rattle.merge.specs.Answer.{same_fields, same_head, parts_fault, clash_fault, size_fault};
+ghost use Rattle.merge.specs.Answer.{made_one, merging_of, Makes};
+ghost use Rattle.model.specs.Refusals.{due, told};
+ghost use Rattle.model.specs.Results.{unless, accepted};
 ghost use Rattle.model.specs.Valid.{Valid};
-ghost use Rattle.model.specs.Zero.{zero_model};
 
-use model::{Model, Rule, Thread, Top};
+use model::{Model, Refusal, Rule, Thread, need};
 
 mod join;
 
-// Whether a model was made, or the refusal's number.
-#[derive(Clone, Copy)]
-pub enum Merged {
-    Done,
-    Refused(u8),
-}
-
-// The model of both; all places are zero where they are refused.
-#[derive(Clone, Copy)]
-pub struct Merging {
-    pub answer: Merged,
-    pub model: Model,
-}
-
 // Merges two models.
-pub fn merge(m: Model, n: Model) -> Merging
-    ensures answer { result ≡ merging_of m n }
-    ensures made { Makes m n result }
+#[tactic(auto, using(crate::proofs::Answers::parts_valid, crate::proofs::Answers::parts_refused, crate::proofs::Answers::clash_refused, crate::proofs::Answers::size_decides, crate::proofs::Answers::told_makes))]
+pub fn merge(m: Model, n: Model) -> Result<Model, Refusal>
+    ensures answer { told result ≡ merging_of m n }
+    ensures made { Makes m n (told result) }
 {
-    let parts = parts_fault(m, n);
-    if parts != 0 {
-        return refused(parts);
-    }
-    let clash = clash_fault(m, n);
-    if clash != 0 {
-        return refused(clash);
-    }
-    made_one(m, n)
+    check_parts(m, n)?;
+    check_clashes(m, n)?;
+    make_one(m, n)
 }
 
-// The fault of the first model or of the second, or 14 where their heads differ; 0 for none.
-fn parts_fault(m: Model, n: Model) -> u8
-    ensures { result ≡ parts_fault m n }
+// The first model's fault, then the second's, then different heads.
+#[tactic(auto, unfolding(crate::specs::Answer::parts_fault, model::specs::Results::first_of))]
+fn check_parts(m: Model, n: Model) -> Result<(), Refusal>
+    ensures { due result ≡ parts_fault m n }
 {
-    let first = model::fault(m);
-    if first != 0 {
-        return first;
-    }
-    let second = model::fault(n);
-    if second != 0 {
-        return second;
-    }
-    if same_head(m, n) { 0 } else { 14 }
+    model::check(m)?;
+    model::check(n)?;
+    need(same_head(m, n), Refusal::Heads)
 }
 
-// Refusal 15 for a rule of a thread that is held in one model and free in the other, or 0.
-fn clash_fault(m: Model, n: Model) -> u8
+// A rule of A, and then one of B, that is held in one model and free in the other.
+#[tactic(auto, using(crate::proofs::Heads::listed_a, crate::proofs::Heads::listed_b), unfolding(crate::specs::Answer::clash_fault, model::specs::Results::first_of))]
+fn check_clashes(m: Model, n: Model) -> Result<(), Refusal>
     requires { Valid m × Valid n }
-    ensures { result ≡ clash_fault m n }
+    ensures { due result ≡ clash_fault m n }
 {
-    if join::has_clash(m.a, n.a) {
-        return 15;
-    }
-    if join::has_clash(m.b, n.b) {
-        return 15;
-    }
-    0
+    need(!join::has_clash(m.a, n.a), Refusal::Clash)?;
+    need(!join::has_clash(m.b, n.b), Refusal::Clash)
 }
 
-// Both models made one, or 16 for more than 64 rules in a thread.
-fn made_one(m: Model, n: Model) -> Merging
+// Both models made one, unless a thread of both has more than 64 rules.
+#[tactic(auto, using(crate::proofs::Heads::listed_a, crate::proofs::Heads::listed_b), unfolding(crate::specs::Answer::size_fault, model::specs::Results::first_of))]
+fn make_one(m: Model, n: Model) -> Result<Model, Refusal>
     requires { Valid m × Valid n }
-    ensures { result ≡ merging_by (size_fault m n) (made_one m n) }
+    ensures { told result ≡ unless (size_fault m n) (accepted (made_one m n)) }
 {
-    let a = join::join(m.a, n.a);
-    let b = join::join(m.b, n.b);
-    if a.fits {
-        if b.fits {
-            let start = m.start;
-            let target = m.target;
-            let thread_a = a.thread;
-            let thread_b = b.thread;
-            return Merging {
-                answer: Merged::Done,
-                model: Model {
-                    g: m.g,
-                    k: m.k,
-                    start,
-                    target,
-                    a: thread_a,
-                    b: thread_b,
-                },
-            };
-        }
-        return refused(16);
-    }
-    refused(16)
+    let a = join::join(m.a, n.a)?;
+    let b = join::join(m.b, n.b)?;
+    Ok(Model { a, b, ..m })
 }
 
-// A refusal beside the zero model.
-fn refused(n: u8) -> Merging
-    ensures { result ≡ record { answer = Merged.Refused n; model = zero_model } }
-{
-    Merging {
-        answer: Merged::Refused(n),
-        model: model::zero_model(),
-    }
-}
-
-// Whether two models have the same head.
+// Whether two models have the same head: `==` of both models would look at their rules, too.
+#[tactic(auto, unfolding(crate::specs::Answer::same_head))]
 fn same_head(m: Model, n: Model) -> bool
     ensures { result ≡ same_head m n }
 {
-    if m.g != n.g {
-        return false;
-    }
-    if m.k != n.k {
-        return false;
-    }
-    if m.start.0 != n.start.0 {
-        return false;
-    }
-    if m.target.0 != n.target.0 {
-        return false;
-    }
-    if same_fields(m.a, n.a) {
-        return same_fields(m.b, n.b);
-    }
-    false
+    m.g == n.g
+        && m.k == n.k
+        && m.start == n.start
+        && m.target == n.target
+        && same_fields(m.a, n.a)
+        && same_fields(m.b, n.b)
 }
 
 // Whether two threads have the same symbol count, first symbol and top.
+#[tactic(auto, unfolding(crate::specs::Answer::same_fields, crate::specs::Answer::same_top))]
 fn same_fields(t: Thread, u: Thread) -> bool
     ensures { result ≡ same_fields t u }
 {
-    if t.symbols != u.symbols {
-        return false;
-    }
-    if t.first.0 != u.first.0 {
-        return false;
-    }
-    let x = t.top;
-    let y = u.top;
-    same_top(x, y)
-}
-
-// Whether two tops ask for the same.
-fn same_top(x: Top, y: Top) -> bool
-    ensures { result ≡ same_top x y }
-{
-    match x {
-        Top::Any => match y {
-            Top::Any => true,
-            Top::Named(_) => false,
-        },
-        Top::Named(s) => match y {
-            Top::Any => false,
-            Top::Named(t) => s.0 == t.0,
-        },
-    }
+    t.symbols == u.symbols && t.first == u.first && t.top == u.top
 }
 
 // What joining two threads' rules comes to, part by part.
@@ -176,19 +88,11 @@ pub struct Next {
     pub j: usize,
 }
 
-// The rules of both, as far as there is room: the first `count` places are used, and the others are zero. `fits` is false where there are
-// more than 64.
+// The rules of both: the first `count` places are used, and the others are zero. There is no heap, so the count stands beside 64 places,
+// and the marks stand beside the rules, as in a `Thread`.
 #[derive(Clone, Copy)]
 pub struct Filled {
-    pub fits: bool,
     pub count: usize,
     pub rules: [Rule; 64],
     pub held: [bool; 64],
-}
-
-// A thread with the rules of both, where there are no more than 64.
-#[derive(Clone, Copy)]
-pub struct Joined {
-    pub fits: bool,
-    pub thread: Thread,
 }

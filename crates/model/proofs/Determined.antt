@@ -5,9 +5,14 @@ use mathlib.Core.Path.{◌≡◌, sym, ◌∙◌}
 use Prim.Native.Nat.{ℕ}
 use Rattle.model.specs.declared.Model.{Model}
 use Rattle.model.specs.declared.Rule.{Rule}
+use Rattle.model.specs.declared.refusal.Refusal.{Refusal}
+use Rattle.std.specs.Prelude.{Result}
+use Rattle.model.proofs.Refusals.{due_names}
+use Rattle.model.proofs.refusal.Refusal.number.Reads as number
+use Rattle.model.proofs.refusal.need.Reads as need
 use Rattle.model.proofs.all_zero.Reads as all-zero
-use Rattle.model.proofs.cross_fault.Reads as cross-fault
-use Rattle.model.proofs.fault.Reads as fault
+use Rattle.model.proofs.check_across.Reads as check-across
+use Rattle.model.proofs.check.Reads as check
 use Rattle.model.proofs.is_held.Reads as is_held_lem
 use Rattle.model.proofs.key.Reads as key
 use Rattle.model.proofs.line_bits.Reads as line-bits
@@ -15,14 +20,24 @@ use Rattle.model.proofs.zero_model.Reads as zero-model
 
 -- Each contract is `Post`, of the arguments, the answer and the arguments at exit. Two answers that meet it are the same: it determines ..
 
--- .. the number of a model's first fault, ..
-pub fault_determined : (m : Model) (r s : ℕ) → fault.Post tt (m, tt) r (m, tt) → fault.Post tt (m, tt) s (m, tt) → r ≡ s
-fault_determined m r s p q = p ∙ sym q
+-- .. a model's first fault, ..
+pub check_determined : (m : Model) (r s : Result (Unit {0}) Refusal)
+    → check.Post tt (m, tt) r (m, tt) → check.Post tt (m, tt) s (m, tt) → r ≡ s
+check_determined m r s p q = due_names r s (p ∙ sym q)
 
--- .. and of its first fault between parts, ..
-pub cross_fault_determined : (m : Model) (r s : ℕ)
-    → cross-fault.Post tt (m, tt) r (m, tt) → cross-fault.Post tt (m, tt) s (m, tt) → r ≡ s
-cross_fault_determined m r s p q = p ∙ sym q
+-- .. its first fault between parts, ..
+pub check_across_determined : (m : Model) (r s : Result (Unit {0}) Refusal)
+    → check-across.Post tt (m, tt) r (m, tt) → check-across.Post tt (m, tt) s (m, tt) → r ≡ s
+check_across_determined m r s p q = due_names r s (p ∙ sym q)
+
+-- .. the number of a refusal, ..
+pub number_determined : (x : Refusal) (r s : ℕ) → number.Post tt (x, tt) r (x, tt) → number.Post tt (x, tt) s (x, tt) → r ≡ s
+number_determined x r s p q = p ∙ sym q
+
+-- .. a test and its refusal, ..
+pub need_determined : (test : Bool) (x : Refusal) (r s : Result (Unit {0}) Refusal)
+    → need.Post tt (test, (x, tt)) r (test, (x, tt)) → need.Post tt (test, (x, tt)) s (test, (x, tt)) → r ≡ s
+need_determined test x r s p q = due_names r s (p ∙ sym q)
 
 -- .. the key of a rule, ..
 pub key_determined : (x : Rule) (r s : ℕ) → key.Post tt (x, tt) r (x, tt) → key.Post tt (x, tt) s (x, tt) → r ≡ s

@@ -13,6 +13,7 @@ pub mod Owners
 pub mod Padded
 pub mod Positions
 pub mod Ranges
+pub mod Refusals
 pub mod Results
 pub mod Sets
 pub mod Steps

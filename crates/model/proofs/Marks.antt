@@ -9,9 +9,8 @@ use native.Mathlib.Nat.{zero-div}
 use native.Mathlib.Numerals.{add-one}
 use native.Mathlib.Omega.{arith}
 use lib.Dec.{T, eqb}
-use lib.ListN.{length, get_or, drop, drop_of_length-le, get_or-eq_default}
-use lib.Seq.{drop-cons}
-use borrow.Author.Tests.{eq-eqb, ne_eqb}
+use lib.Pointwise.{pointwise}
+use lib.ListN.{length, get_or, replicate, get_or-eq_default}
 use Rattle.model.specs.Bits.{bit_at, all_zero}
 use Rattle.model.specs.Valid.{free_from}
 use Rattle.model.proofs.Tests.{passed, both, equal, negated, each_from}
@@ -43,20 +42,13 @@ pub past : (l : List ℕ) (r : ℕ) → 64 ≤ r → free_on l r ≡ true
 unfolding free_from
 past l r h = let s : 64 - r ≡ 0 = omega arith in rw s
 
--- A loop over bytes: where one is not 0, not all from it on are ..
-pub not-zero : {n : ℕ} (l : List ℕ) (i : ℕ) → length l ≡ n → i < n → (get_or l i 0 ≡ 0 → ⊥) → all_zero (drop i l) ≡ false
+-- Bytes are all 0 exactly if they equal as many zeros.
+pub zeros : (l : List ℕ) (n : ℕ) → length l ≡ n → pointwise eqb l (replicate n 0) ≡ all_zero l
 unfolding all_zero
-not-zero l i e h k = rw (drop-cons l i 0 (omega arith), ne_eqb (get_or l i 0) 0 k)
-
--- .. where it is, those after it decide ..
-pub zero_on : {n : ℕ} (l : List ℕ) (i : ℕ) → length l ≡ n → i < n → get_or l i 0 ≡ 0 → all_zero (drop (i + 1) l) ≡ all_zero (drop i l)
-unfolding all_zero
-zero_on l i e h k = rw (drop-cons l i 0 (omega arith), eq-eqb (get_or l i 0) 0 k, add-one)
-
--- .. and past the last all are.
-pub zero_past : {n : ℕ} (l : List ℕ) (i : ℕ) → length l ≡ n → n ≤ i → all_zero (drop i l) ≡ true
-unfolding all_zero
-zero_past l i e h = rw (drop_of_length-le l {i = i} (omega arith))
+zeros [] zero e = refl
+zeros [] (suc n) e = absurd (omega (arith, e))
+zeros (b ∷ bs) zero e = absurd (omega (arith, e))
+zeros (b ∷ bs) (suc n) e = rw (zeros bs n (omega (arith, e)))
 
 -- Each byte of such a list is 0.
 zero_byte : (l : List ℕ) → T (all_zero l) → (i : ℕ) → get_or l i 0 ≡ 0

@@ -14,8 +14,8 @@ use Rattle.model.specs.declared.Right.TheVariants.{Remove, Swap, Push}
 use Rattle.model.specs.declared.Rule.{Rule}
 use Rattle.model.specs.declared.Symbol.{Symbol}
 use Rattle.model.specs.declared.Thread.{Thread}
-use Rattle.model.specs.declared.Top.{Top}
-use Rattle.model.specs.declared.Top.TheVariants.{Any, Named}
+use Rattle.model.specs.Tops.{Top}
+use Rattle.std.specs.Prelude.{None, Some}
 use Rattle.model.specs.Fits.{RightBelow, RuleFits, TopBelow, SymbolsBelow, ThreadFits, Fits}
 use Rattle.model.specs.Order.{key_of, above}
 use Rattle.model.specs.Results.{refuse, first_of}
@@ -46,8 +46,8 @@ module _ (n limit : ℕ) (some : ltb 0 n ≡ true) where
 
   top : (x : Top) → (top_fault n limit x ≡ 0) ↔ TopBelow limit x
   unfolding top_fault
-  top Any = (λ h. tt, λ h. refl)
-  top (Named s) = symbol s
+  top None = (λ h. tt, λ h. refl)
+  top (Some s) = symbol s
 
   right : (x : Right) → (right_fault n limit x ≡ 0) ↔ RightBelow limit x
   unfolding right_fault first_of

@@ -1,7 +1,7 @@
 -- Symbols checked rule by rule: the fault of the rules from a place on is that of the rule there or else of those after it, and places
 -- beyond the last hold the symbol 0 alone, which every count allows. What refuses them is 17, and 11 for marks.
 use mathlib.Core.List.{[], ◌∷◌}
-use mathlib.Core.Path.{◌≡◌, refl}
+use mathlib.Core.Path.{◌≡◌}
 use Prim.Native.Nat.{ℕ, zero, suc, ◌+◌, ◌-◌, ◌≤◌, ◌<◌}
 use native.Mathlib.Numerals.{add-one}
 use native.Mathlib.Omega.{arith}
@@ -12,12 +12,12 @@ use Rattle.model.specs.declared.Right.{Right}
 use Rattle.model.specs.declared.Right.TheVariants.{Remove, Swap, Push}
 use Rattle.model.specs.declared.Symbol.{Symbol}
 use Rattle.model.specs.declared.Thread.{Thread}
-use Rattle.model.specs.declared.Top.{Top}
-use Rattle.model.specs.declared.Top.TheVariants.{Any, Named}
+use Rattle.model.specs.Tops.{Top}
+use Rattle.std.specs.Prelude.{None, Some}
 use Rattle.model.specs.Results.{first_of}
 use Rattle.model.specs.Rules.{rule_at, zero_rule}
 use Rattle.model.specs.Valid.{symbol_fault, top_fault, right_fault, free_from, mark_fault, marks_fault, used_fault, symbols_fault, cross_fault}
-use Rattle.model.proofs.Checks.{stops, passes, closes, of_first, of_none, of_test}
+use Rattle.model.proofs.Checks.{of_first, of_none, of_test}
 use Rattle.model.proofs.Ranges.{used}
 
 -- The fault of the rules from number r up to the last.
@@ -28,23 +28,11 @@ pub from_start : (t : Thread) → used_on t 0 ≡ used_fault t.symbols t 0 t.cou
 from_start t = let all : t.count - 0 ≡ t.count = omega arith in rw all
 
 module _ (t : Thread) {r : ℕ} (h : r < t.count) where
-  -- The rule there is looked at first: the symbol before, ..
-  split : used_on t r
+  -- The rule there is looked at first: the symbol before, then the new ones; else those after it decide.
+  pub split : used_on t r
       ≡ first_of (symbol_fault 17 t.symbols (rule_at t r).symbol ∷ right_fault 17 t.symbols (rule_at t r).right ∷ used_on t (r + 1) ∷ [])
   unfolding used_fault
   split = let cut : t.count - r ≡ suc (t.count - suc r) = omega arith in rw (cut, add-one)
-
-  pub own_before : {found : ℕ} → found ≡ symbol_fault 17 t.symbols (rule_at t r).symbol → (found ≡ 0 → ⊥) → found ≡ used_on t r
-  own_before e p = rw split (stops _ e p)
-
-  module _ {found : ℕ} (e : found ≡ symbol_fault 17 t.symbols (rule_at t r).symbol) (z : found ≡ 0) where
-    -- .. then the new ones, ..
-    pub own_new : {next : ℕ} → next ≡ right_fault 17 t.symbols (rule_at t r).right → (next ≡ 0 → ⊥) → next ≡ used_on t r
-    own_new f p = rw split (passes _ e z (stops _ f p))
-
-    -- .. and else those after it decide.
-    pub goes_on : {next : ℕ} → next ≡ right_fault 17 t.symbols (rule_at t r).right → next ≡ 0 → used_on t (r + 1) ≡ used_on t r
-    goes_on f y = rw split (passes _ e z (passes _ f y (closes refl)))
 
 -- Past the last rule there is no fault left to find ..
 pub runs_out : (t : Thread) {r : ℕ} → t.count ≤ r → 0 ≡ used_on t r
@@ -65,8 +53,8 @@ module _ (P : ℕ → Type 0) (none : P 0) where
 
   of_top : {n : ℕ} → P n → (limit : ℕ) (x : Top) → P (top_fault n limit x)
   unfolding top_fault
-  of_top p limit Any = none
-  of_top p limit (Named s) = of_symbol p limit s
+  of_top p limit None = none
+  of_top p limit (Some s) = of_symbol p limit s
 
   of_right : {n : ℕ} → P n → (limit : ℕ) (x : Right) → P (right_fault n limit x)
   unfolding right_fault

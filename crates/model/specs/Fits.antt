@@ -5,8 +5,8 @@ use Rattle.model.specs.declared.Right.{Right}
 use Rattle.model.specs.declared.Right.TheVariants.{Remove, Swap, Push}
 use Rattle.model.specs.declared.Rule.{Rule}
 use Rattle.model.specs.declared.Thread.{Thread}
-use Rattle.model.specs.declared.Top.{Top}
-use Rattle.model.specs.declared.Top.TheVariants.{Any, Named}
+use Rattle.model.specs.Tops.{Top}
+use Rattle.std.specs.Prelude.{None, Some}
 use Rattle.model.specs.Order.{key_of}
 use Rattle.model.specs.Rules.{rule_at, held_at}
 
@@ -18,8 +18,8 @@ RightBelow limit (Push a b) = (a.0 < limit) × (b.0 < limit)
 
 -- .. and so is a top that is named.
 abbrev pub TopBelow : ℕ → Top → Type 0
-TopBelow limit Any = Unit {0}
-TopBelow limit (Named s) = s.0 < limit
+TopBelow limit None = Unit {0}
+TopBelow limit (Some s) = s.0 < limit
 
 -- Those of a right side are at most 15 ..
 abbrev pub RightFits : Right → Type 0

@@ -4,11 +4,13 @@ pub mod First
 pub mod Fits
 pub mod Lines
 pub mod Order
+pub mod Refusals
 pub mod Results
 pub mod Rules
 pub mod Runs
 pub mod Schedules
 pub mod Tables
+pub mod Tops
 pub mod UpToOrder
 pub mod Valid
 pub mod Verdict

@@ -6,8 +6,8 @@ use Rattle.model.specs.declared.Right.TheVariants.{Remove, Swap, Push}
 use Rattle.model.specs.declared.Rule.{Rule}
 use Rattle.model.specs.declared.Symbol.{Symbol}
 use Rattle.model.specs.declared.Thread.{Thread}
-use Rattle.model.specs.declared.Top.{Top}
-use Rattle.model.specs.declared.Top.TheVariants.{Any, Named}
+use Rattle.model.specs.Tops.{Top}
+use Rattle.std.specs.Prelude.{None, Some}
 use Rattle.model.specs.Bits.{bit_at}
 use Rattle.model.specs.Order.{above}
 use Rattle.model.specs.Results.{refuse, first_of}
@@ -19,8 +19,8 @@ symbol_fault n limit s = refuse n (ltb s.0 limit)
 
 -- The same of a top that is named ..
 unfoldable pub top_fault : ℕ → ℕ → Top → ℕ
-top_fault n limit Any = 0
-top_fault n limit (Named s) = symbol_fault n limit s
+top_fault n limit None = 0
+top_fault n limit (Some s) = symbol_fault n limit s
 
 -- .. and of the new symbols of a rule.
 unfoldable pub right_fault : ℕ → ℕ → Right → ℕ

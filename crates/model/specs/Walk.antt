@@ -3,8 +3,8 @@ use Rattle.std.specs.Prelude.{Bool, true, false, not, ◌&&◌, ◌||◌, List, 
 use Rattle.model.specs.declared.Model.{Model}
 use Rattle.model.specs.declared.Rule.{Rule}
 use Rattle.model.specs.declared.Thread.{Thread}
-use Rattle.model.specs.declared.Top.{Top}
-use Rattle.model.specs.declared.Top.TheVariants.{Any, Named}
+use Rattle.model.specs.Tops.{Top}
+use Rattle.std.specs.Prelude.{None, Some}
 use Rattle.model.specs.Results.{Result, refused, accepted, need, and_then}
 use Rattle.model.specs.declared.ThreadId.{ThreadId}
 use Rattle.model.specs.declared.ThreadId.TheVariants.{A, B}
@@ -108,9 +108,9 @@ walk m c (s ∷ ss) = and_then (step_from m c s) (λ d. walk m d ss)
 
 -- A stack has the top that is asked for: any stack where none is named, and else one with that symbol on top. An empty stack has no top.
 abbrev pub has_top : Top → List ℕ → Bool
-has_top Any w = true
-has_top (Named s) [] = false
-has_top (Named s) (top ∷ w) = eqb top s.0
+has_top None w = true
+has_top (Some s) [] = false
+has_top (Some s) (top ∷ w) = eqb top s.0
 
 -- Both stacks have the tops that the model asks for.
 abbrev pub under_tops : Model → Stacks → Bool

@@ -1,8 +1,8 @@
--- Unused places: what they hold in a model that was read or made, and the model that stands beside a refusal.
+-- Unused places: what they hold in a model that was read or made, and the model whose places are all zero.
 use Rattle.std.specs.Prelude.{List, ◌++◌, ◌≡◌, ℕ, ◌-◌, ◌≤◌, length, drop, replicate}
 use Rattle.model.specs.declared.Model.{Model}
 use Rattle.model.specs.declared.Thread.{Thread}
-use Rattle.model.specs.declared.Top.TheVariants.{Any}
+use Rattle.std.specs.Prelude.{None}
 use Rattle.model.specs.Rules.{zero_rule}
 
 -- Of 64 places those from n on are zero.
@@ -30,7 +30,7 @@ no_marks = replicate 8 0
 -- A thread whose places are all zero.
 abbrev pub zero_thread : Thread
 zero_thread =
-    record { symbols = 0; first = record { 0 = 0 }; top = Any; held = no_marks; count = 0; rules = replicate 64 zero_rule }
+    record { symbols = 0; first = record { 0 = 0 }; top = None; held = no_marks; count = 0; rules = replicate 64 zero_rule }
 
 -- A model whose places are all zero.
 abbrev pub zero_model : Model

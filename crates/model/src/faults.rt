@@ -1,205 +1,138 @@
-// The checks of a model, part by part: each answers the number of its first fault, or 0 for none.
+// The checks of a model, part by part: each answers its first fault, if there is one.
 ghost use Rattle.std.specs.Prelude.{◌≡◌, ◌<◌};
+ghost use Rattle.model.specs.Refusals.{due, number_of};
 ghost use Rattle.model.specs.Valid.{head_fault, range_fault, fields_fault, thread_fault, rule_fault, mark_fault};
 ghost use Rattle.model.specs.Valid.{symbols_fault, used_fault, right_fault, top_fault, symbol_fault};
 
-use crate::{Model, Right, Rule, Symbol, Thread, Top};
+use crate::{Model, Refusal, Right, Rule, Symbol, Thread, Top, need};
 
-// Refusal 3 for a head field out of range: those of the model, then those of A and of B.
-pub fn head_fault(m: Model) -> u8
-    ensures { result ≡ head_fault m }
+// A head field out of its range: those of the model, then those of A and of B.
+#[tactic(auto, unfolding(crate::specs::Valid::head_fault, crate::specs::Results::first_of))]
+pub fn head(m: Model) -> Result<(), Refusal>
+    ensures { due result ≡ head_fault m }
 {
-    let range = range_fault(m);
-    if range != 0 {
-        return range;
-    }
-    let a = m.a;
-    let first = fields_fault(a);
-    if first != 0 {
-        return first;
-    }
-    let b = m.b;
-    fields_fault(b)
+    range(m)?;
+    fields(m.a)?;
+    fields(m.b)
 }
 
-// Refusal 3 for a thread's symbol count that is not 1 to 16, or its top or first symbol above 15.
-fn fields_fault(t: Thread) -> u8
-    ensures { result ≡ fields_fault t }
+// A thread's symbol count that is not 1 to 16, or its top or first symbol above 15.
+#[tactic(auto, unfolding(crate::specs::Valid::fields_fault, crate::specs::Results::first_of))]
+fn fields(t: Thread) -> Result<(), Refusal>
+    ensures { due result ≡ fields_fault t }
 {
-    if t.symbols < 1 {
-        return 3;
-    }
-    if 16 < t.symbols {
-        return 3;
-    }
-    let top = t.top;
-    let found = top_fault(3, 16, top);
-    if found != 0 {
-        return found;
-    }
-    let first = t.first;
-    symbol_fault(3, 16, first)
+    need((1..=16).contains(&t.symbols), Refusal::Head)?;
+    top(Refusal::Head, 16, t.top)?;
+    symbol(Refusal::Head, 16, t.first)
 }
 
-// Refusal 3 for G, K, the start or the target state out of range.
-fn range_fault(m: Model) -> u8
-    ensures { result ≡ range_fault m }
+// G, K, the start or the target state out of range.
+#[tactic(auto, unfolding(crate::specs::Valid::range_fault, crate::specs::Results::first_of))]
+fn range(m: Model) -> Result<(), Refusal>
+    ensures { due result ≡ range_fault m }
 {
-    if m.g < 1 {
-        return 3;
-    }
-    if 4 < m.g {
-        return 3;
-    }
-    if m.k < 1 {
-        return 3;
-    }
-    if 3 < m.k {
-        return 3;
-    }
-    if m.g <= m.start.0 {
-        return 3;
-    }
-    if m.g <= m.target.0 {
-        return 3;
-    }
-    0
+    need((1..=4).contains(&m.g), Refusal::Head)?;
+    need((1..=3).contains(&m.k), Refusal::Head)?;
+    need(m.start.0 < m.g, Refusal::Head)?;
+    need(m.target.0 < m.g, Refusal::Head)
 }
 
-// Refusal 4 for a count above 64; then for each of the first `count` rules 4 where it is out of range, and 13 where it is not above the one
-// before it. The least key that the next rule may have is one above the last.
-pub fn thread_fault(g: u8, t: Thread) -> u8
-    ensures { result ≡ thread_fault g t }
+// A count above 64; then of the first `count` rules one that is out of range, or not above the one before it. The least key that the next
+// rule may have is one above the last.
+#[tactic(auto, using(crate::proofs::Order::split, crate::proofs::Order::from_start, crate::proofs::Order::runs_out, crate::proofs::Order::next_least, crate::proofs::Order::among), unfolding(crate::specs::Valid::thread_fault, crate::specs::Results::first_of))]
+pub fn thread(g: u8, t: Thread) -> Result<(), Refusal>
+    ensures { due result ≡ thread_fault g t }
 {
-    let n = t.count;
-    if 64 < n {
-        return 4;
-    }
-    let mut i = 0;
+    need(t.count <= 64, Refusal::Rule)?;
     let mut least = 0u64;
-    while i < n {
-        let rule = t.rules[i];
-        let found = rule_fault(g, rule);
-        if found != 0 {
-            return found;
-        }
-        let place = crate::key(rule) as u64;
-        if place < least {
-            return 13;
-        }
+    for r in &t.rules[..t.count] {
+        rule(g, *r)?;
+        let place = crate::key(*r) as u64;
+        need(least <= place, Refusal::Order)?;
         least = place + 1;
-        i += 1;
     }
-    0
+    Ok(())
 }
 
-// Refusal 4 for a state not below G or a symbol above 15.
-fn rule_fault(g: u8, r: Rule) -> u8
-    ensures { result ≡ rule_fault g r }
+// A rule with a state not below G or a symbol above 15.
+#[tactic(auto, unfolding(crate::specs::Valid::rule_fault, crate::specs::Valid::symbol_fault, crate::specs::Results::first_of))]
+fn rule(g: u8, r: Rule) -> Result<(), Refusal>
+    ensures { due result ≡ rule_fault g r }
 {
-    if g <= r.before.0 {
-        return 4;
-    }
-    if 16 <= r.symbol.0 {
-        return 4;
-    }
-    if g <= r.after.0 {
-        return 4;
-    }
-    let x = r.right;
-    right_fault(4, 16, x)
+    need(r.before.0 < g, Refusal::Rule)?;
+    symbol(Refusal::Rule, 16, r.symbol)?;
+    need(r.after.0 < g, Refusal::Rule)?;
+    right(Refusal::Rule, 16, r.right)
 }
 
-// Refusal 11 for a mark at a rule number that a list of `count` rules lacks, or 0.
-pub fn mark_fault(marks: [u8; 8], count: usize) -> u8
-    ensures { result ≡ mark_fault marks count }
+// A mark at a rule number that a list of `count` rules lacks.
+#[tactic(auto, using(crate::proofs::Marks::found, crate::proofs::Marks::onward, crate::proofs::Marks::past, crate::proofs::Marks::all_free), unfolding(crate::specs::Valid::mark_fault, crate::specs::Results::first_of))]
+pub fn marks(marks: [u8; 8], count: usize) -> Result<(), Refusal>
+    ensures { due result ≡ mark_fault marks count }
 {
     if crate::all_zero(marks) {
-        return 0;
+        return Ok(());
     }
-    let mut r = count;
-    while r < 64 {
-        if crate::is_held(marks, r) {
-            return 11;
-        }
-        r += 1;
+    for r in count..64 {
+        need(!crate::is_held(marks, r), Refusal::Mark)?;
     }
-    0
+    Ok(())
 }
 
-// Refusal 17 for a symbol of a thread that is not below its count: the first, the top, and then those of its rules.
-pub fn symbols_fault(t: Thread) -> u8
-    ensures { result ≡ symbols_fault t }
+// A symbol of a thread that is not below its count: the first, the top, and then those of its rules.
+#[tactic(auto, using(crate::proofs::Ranges::symbol), unfolding(crate::specs::Valid::symbols_fault, crate::specs::Results::first_of))]
+pub fn symbols(t: Thread) -> Result<(), Refusal>
+    ensures { due result ≡ symbols_fault t }
 {
-    let first = t.first;
-    let found = symbol_fault(17, t.symbols, first);
-    if found != 0 {
-        return found;
-    }
-    let top = t.top;
-    let named = top_fault(17, t.symbols, top);
-    if named != 0 {
-        return named;
-    }
-    used_fault(t)
+    symbol(Refusal::Symbol, t.symbols, t.first)?;
+    top(Refusal::Symbol, t.symbols, t.top)?;
+    used(t)
 }
 
 // The same of the symbols of its rules. There are 64 places, whatever the count says.
-fn used_fault(t: Thread) -> u8
-    requires { 0 < t.symbols }
-    ensures { result ≡ used_fault t.symbols t 0 t.count }
+#[tactic(auto, using(crate::proofs::Symbols::split, crate::proofs::Symbols::from_start, crate::proofs::Symbols::runs_out, crate::proofs::Symbols::no_place, crate::proofs::Order::among), unfolding(crate::specs::Results::first_of))]
+fn used(t: Thread) -> Result<(), Refusal>
+    requires above { 0 < t.symbols }
+    ensures { due result ≡ used_fault t.symbols t 0 t.count }
 {
-    let mut i = 0;
-    while i < t.count {
-        if 64 <= i {
-            return 0;
-        }
-        let rule = t.rules[i];
-        let symbol = rule.symbol;
-        let before = symbol_fault(17, t.symbols, symbol);
-        if before != 0 {
-            return before;
-        }
-        let right = rule.right;
-        let new = right_fault(17, t.symbols, right);
-        if new != 0 {
-            return new;
-        }
-        i += 1;
+    for r in &t.rules[..t.count.min(64)] {
+        symbol(Refusal::Symbol, t.symbols, r.symbol)?;
+        right(Refusal::Symbol, t.symbols, r.right)?;
     }
-    0
+    Ok(())
 }
 
-// Refusal n for a new symbol of a rule that is not below a limit.
-fn right_fault(n: u8, limit: u8, x: Right) -> u8
-    ensures { result ≡ right_fault n limit x }
+// A new symbol of a rule that is not below a limit. The refusal and the limit, here and below, are two words of one check, of unlike
+// types, in no call kept together.
+#[tactic(auto, unfolding(crate::specs::Valid::right_fault, crate::specs::Results::first_of))]
+fn right(refusal: Refusal, limit: u8, x: Right) -> Result<(), Refusal>
+    ensures { due result ≡ right_fault (number_of refusal) limit x }
 {
     match x {
-        Right::Remove => 0,
-        Right::Swap(a) => symbol_fault(n, limit, a),
+        Right::Remove => Ok(()),
+        Right::Swap(a) => symbol(refusal, limit, a),
         Right::Push(a, b) => {
-            let first = symbol_fault(n, limit, a);
-            if first != 0 {
-                return first;
-            }
-            symbol_fault(n, limit, b)
+            symbol(refusal, limit, a)?;
+            symbol(refusal, limit, b)
         }
     }
 }
 
-// The same for a top that is named.
-fn top_fault(n: u8, limit: u8, t: Top) -> u8
-    ensures { result ≡ top_fault n limit t }
+// The same of a top that is named.
+#[tactic(auto, unfolding(crate::specs::Valid::top_fault))]
+fn top(refusal: Refusal, limit: u8, t: Top) -> Result<(), Refusal>
+    ensures { due result ≡ top_fault (number_of refusal) limit t }
 {
     match t {
-        Top::Any => 0,
-        Top::Named(s) => symbol_fault(n, limit, s),
+        None => Ok(()),
+        Some(s) => symbol(refusal, limit, s),
     }
 }
 
-// The same for one symbol.
-fn symbol_fault(n: u8, limit: u8, s: Symbol) -> u8
-    ensures { result ≡ symbol_fault n limit s }
+// The same of one symbol.
+#[tactic(auto, unfolding(crate::specs::Valid::symbol_fault))]
+fn symbol(refusal: Refusal, limit: u8, s: Symbol) -> Result<(), Refusal>
+    ensures { due result ≡ symbol_fault (number_of refusal) limit s }
 {
-    if s.0 < limit { 0 } else { n }
+    need(s.0 < limit, refusal)
 }

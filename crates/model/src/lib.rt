@@ -5,22 +5,26 @@
 ghost use Rattle.std.specs.Prelude.{◌≡◌};
 ghost use Rattle.model.specs.Bits.{bit_at, all_zero};
 ghost use Rattle.model.specs.Order.{key_of};
+ghost use Rattle.model.specs.Refusals.{due};
 ghost use Rattle.model.specs.Valid.{fault_of, cross_fault};
 ghost use Rattle.model.specs.Lines.{table_bits};
 ghost use Rattle.model.specs.Zero.{zero_model};
 
 mod faults;
+mod refusal;
+
+pub use refusal::{Refusal, need};
 
 // A shared state, 0 to G−1. Never a stack symbol, though both are numbered from 0.
-#[derive(Clone, Copy)]
+#[derive(Clone, Copy, Debug, PartialEq, Eq)]
 pub struct Shared(pub u8);
 
 // A stack symbol, 0 to 15.
-#[derive(Clone, Copy)]
+#[derive(Clone, Copy, Debug, PartialEq, Eq)]
 pub struct Symbol(pub u8);
 
 // The right side of a rule: what comes in place of the top symbol, its first symbol on top.
-#[derive(Clone, Copy)]
+#[derive(Clone, Copy, Debug, PartialEq, Eq)]
 pub enum Right {
     Remove,
     Swap(Symbol),
@@ -28,7 +32,7 @@ pub enum Right {
 }
 
 // A rule of a pushdown system: it applies at shared state `before` with `symbol` on top, and leads to `after`.
-#[derive(Clone, Copy)]
+#[derive(Clone, Copy, Debug, PartialEq, Eq)]
 pub struct Rule {
     pub before: Shared,
     pub symbol: Symbol,
@@ -37,15 +41,12 @@ pub struct Rule {
 }
 
 // What is asked of a stack where a run ends: nothing, or that a named symbol is its top.
-#[derive(Clone, Copy)]
-pub enum Top {
-    Any,
-    Named(Symbol),
-}
+pub type Top = Option<Symbol>;
 
 // A thread: how many stack symbols it has (the size of its stack alphabet), the symbol its stack holds at the start, what is asked of its
 // top at the target, which of its rules are held, and its first `count` rules. The places from `count` on are unused. Rule r is held where
-// bit r mod 8 of byte r div 8 stands: no turn ends right after it.
+// bit r mod 8 of byte r div 8 stands: no turn ends right after it. There is no heap, and a model handed in may have any count, so the count stands
+// beside the array, and `check` looks at it.
 #[derive(Clone, Copy)]
 pub struct Thread {
     pub symbols: u8,
@@ -57,7 +58,7 @@ pub struct Thread {
 }
 
 // The two threads. Even turns are A's, odd ones B's.
-#[derive(Clone, Copy)]
+#[derive(Clone, Copy, Debug, PartialEq, Eq)]
 pub enum ThreadId {
     A,
     B,
@@ -75,7 +76,7 @@ pub struct Model {
 }
 
 // How many symbols each stack held at most in a run, the one at the start counted.
-#[derive(Clone, Copy)]
+#[derive(Clone, Copy, Debug, PartialEq, Eq)]
 pub struct Depths {
     pub a: usize,
     pub b: usize,
@@ -95,50 +96,26 @@ pub const MOST_BYTES: usize = 8190;
 // The line bits for G from 1 to 4 (rows) and K from 1 to 3 (columns).
 const LINE_BITS: [[u16; 3]; 4] = [[2, 4, 6], [6, 30, 126], [12, 120, 1092], [20, 340, 5460]];
 
-// The refusal number of a model's first fault, or 0 where it is valid.
-pub fn fault(m: Model) -> u8
-    ensures { result ≡ fault_of m }
+// The first fault of a model, if it has one: of its head, of A's rules, of B's rules, and then between these parts.
+#[tactic(auto, unfolding(crate::specs::Valid::fault_of, crate::specs::Results::first_of))]
+pub fn check(m: Model) -> Result<(), Refusal>
+    ensures { due result ≡ fault_of m }
 {
-    let head = faults::head_fault(m);
-    if head != 0 {
-        return head;
-    }
-    let g = m.g;
-    let a = m.a;
-    let first = faults::thread_fault(g, a);
-    if first != 0 {
-        return first;
-    }
-    let b = m.b;
-    let second = faults::thread_fault(g, b);
-    if second != 0 {
-        return second;
-    }
-    cross_fault(m)
+    faults::head(m)?;
+    faults::thread(m.g, m.a)?;
+    faults::thread(m.g, m.b)?;
+    check_across(m)
 }
 
-// The refusal number of the first fault between the parts of a model, or 0: a mark on a rule that is not in its list, or a symbol not below
-// its thread's count.
-pub fn cross_fault(m: Model) -> u8
-    ensures { result ≡ cross_fault m }
+// The first fault between the parts of a model: a mark on a rule that is not in its list, or a symbol not below its thread's count.
+#[tactic(auto, unfolding(crate::specs::Valid::cross_fault, crate::specs::Valid::marks_fault, crate::specs::Results::first_of))]
+pub fn check_across(m: Model) -> Result<(), Refusal>
+    ensures { due result ≡ cross_fault m }
 {
-    let a = m.a;
-    let marks_a = a.held;
-    let first = faults::mark_fault(marks_a, a.count);
-    if first != 0 {
-        return first;
-    }
-    let b = m.b;
-    let marks_b = b.held;
-    let second = faults::mark_fault(marks_b, b.count);
-    if second != 0 {
-        return second;
-    }
-    let third = faults::symbols_fault(a);
-    if third != 0 {
-        return third;
-    }
-    faults::symbols_fault(b)
+    faults::marks(m.a.held, m.a.count)?;
+    faults::marks(m.b.held, m.b.count)?;
+    faults::symbols(m.a)?;
+    faults::symbols(m.b)
 }
 
 // The key of a rule, by which the rules of a thread ascend.
@@ -149,8 +126,7 @@ pub fn key(r: Rule) -> u32
     let symbol = r.symbol.0 as u32;
     let after = r.after.0 as u32;
     let high = ((before * 16 + symbol) * 16 + after) * 4096;
-    let x = r.right;
-    match x {
+    match r.right {
         Right::Remove => high,
         Right::Swap(a) => high + (256 + a.0 as u32 * 16),
         Right::Push(a, b) => high + (512 + a.0 as u32 * 16 + b.0 as u32),
@@ -173,14 +149,7 @@ pub fn is_held(marks: [u8; 8], r: usize) -> bool
 pub fn all_zero(marks: [u8; 8]) -> bool
     ensures { result ≡ all_zero marks }
 {
-    let mut i = 0;
-    while i < 8 {
-        if marks[i] != 0 {
-            return false;
-        }
-        i += 1;
-    }
-    true
+    marks == [0u8; 8]
 }
 
 // A model whose places are all zero.
@@ -190,7 +159,7 @@ pub fn zero_model() -> Model
     let t = Thread {
         symbols: 0,
         first: Symbol(0),
-        top: Top::Any,
+        top: None,
         held: [0u8; 8],
         count: 0,
         rules: [ZERO_RULE; 64],
@@ -205,23 +174,13 @@ pub fn zero_model() -> Model
     }
 }
 
-// How many lines a model with these G and K has, or 0 where they are out of range.
+// How many lines a model with these G and K has, or 0 where they are out of range: 0 and no Option, since README names the call, which
+// answers so.
 pub fn line_bits(g: u8, k: u8) -> u16
     ensures { result ≡ table_bits g k }
 {
-    if g < 1 {
+    if g < 1 || 4 < g || k < 1 || 3 < k {
         return 0;
     }
-    if 4 < g {
-        return 0;
-    }
-    if k < 1 {
-        return 0;
-    }
-    if 3 < k {
-        return 0;
-    }
-    let i = (g - 1) as usize;
-    let j = (k - 1) as usize;
-    LINE_BITS[i][j]
+    LINE_BITS[(g - 1) as usize][(k - 1) as usize]
 }

@@ -1,14 +1,12 @@
 -- What a schedule that replay accepts gives the page: the walk makes every step, so each has its line, and the page has 73 bytes for
 -- each step and 73 for the foot.
-use mathlib.Core.Bool.{Bool, false}
+use mathlib.Core.Bool.{false}
 use mathlib.Core.List.{List, [], ◌∷◌}
 use mathlib.Core.Path.{◌≡◌, refl, ap, ◌∙◌}
 use Prim.Native.Nat.{ℕ, suc, ◌+◌, ◌*◌, ◌/◌, ◌≤◌}
 use native.Mathlib.Omega.{arith}
 use lib.ListN.{length, length-append}
-use Rattle.model.specs.declared.Depths.{Depths}
 use Rattle.model.specs.declared.Model.{Model}
-use Rattle.model.specs.declared.Shared.{Shared}
 use Rattle.model.specs.Fits.{Fits}
 use Rattle.model.specs.Results.{accepted}
 use Rattle.model.specs.Schedules.{steps_of}
@@ -16,7 +14,7 @@ use Rattle.model.specs.Walk.{Config, Step, start_of, step_from, walk}
 use Rattle.model.proofs.Ranges.{valid_fits}
 use Rattle.model.proofs.Results.{through}
 use Rattle.model.proofs.Stores.{length_bytes, steps_bytes, length_steps}
-use Rattle.replay.specs.declared.Replayed.TheVariants.{Accepted}
+use Rattle.replay.specs.declared.Replayed.{Replayed}
 use Rattle.replay.specs.Replay.{replay_of, Legally}
 use Rattle.replay.proofs.Accepts.{accepts}
 use Rattle.page.specs.Page.{page_lines, page_of, turns_in}
@@ -36,13 +34,13 @@ length-lines {m} f (s ∷ ss) c n h e =
     let rest = length-lines f ss t.0 (suc n) (omega arith) t.2 in
     rw t.1 (simp length-append (omega arith))
 
-module _ (m : Model) (l : List ℕ) {q : Shared} {reached : Bool} {depths : Depths} (e : replay_of m l ≡ Accepted q reached depths) where
-  legal : Legally m l q.0 reached depths
-  legal = (accepts m l q reached depths).0 e
+module _ (m : Model) (l : List ℕ) {r : Replayed} (e : replay_of m l ≡ accepted r) where
+  legal : Legally m l r.shared.0 r.reached r.depths
+  legal = (accepts m l r.shared r.reached r.depths).0 e
 
   -- The walk of the schedule's bytes makes every step.
   walked : walk m (start_of m) (steps_of l)
-      ≡ accepted (record { turn = legal.leads.turn; held = false; shared = q.0; stacks = legal.stacks })
+      ≡ accepted (record { turn = legal.leads.turn; held = false; shared = r.shared.0; stacks = legal.stacks })
   walked =
       let same : steps_of l ≡ legal.steps = ap steps_of legal.written ∙ steps_bytes legal.steps in
       rw same legal.leads.walked

@@ -5,7 +5,7 @@ use Prim.Native.Nat.{ℕ, suc, ◌+◌, ◌-◌, ◌*◌, ◌/◌, ◌≤◌, �
 use native.Mathlib.Numerals.{add-one}
 use native.Mathlib.Omega.{arith}
 use lib.ListN.{length, take, drop, length-drop}
-use lib.Seq.{drop-cons, length-take-le, length-sets}
+use lib.Seq.{drop-cons, length-take-le}
 use Rattle.model.specs.declared.Model.{Model}
 use Rattle.model.specs.Fits.{Fits}
 use Rattle.model.specs.Results.{refused, accepted}
@@ -17,10 +17,12 @@ use Rattle.model.proofs.Stores.{first_step, short}
 use Rattle.walk.specs.declared.Walk.{Walk}
 use Rattle.walk.specs.Stack.{config_of, walk_on, Counted, Room}
 use Rattle.walk.proofs.Schedules.{walk_one}
-use Rattle.writer.specs.Put.{Put}
-use Rattle.writer.proofs.Puts.{nothing, ◌then◌}
+use Rattle.writer.specs.declared.output.Output.{Output}
+use Rattle.writer.specs.Output.{Appends, HasRoom}
+use Rattle.writer.proofs.Outputs.{nothing, ◌then◌}
 use Rattle.page.specs.Page.{page_line, page_lines}
 use Rattle.page.specs.Parts.{StepFits, Pageable}
+use Rattle.page.proofs.Widths.{length_line}
 
 -- The part of a schedule that is walked for the line of step i.
 abbrev part_at : List ℕ → ℕ → List ℕ
@@ -58,43 +60,43 @@ shows m c s n h f e =
     }
 
 -- What the lines of a schedule l are put by: it can be put on a page, and there is room for the stacks and for the lines.
-pub record Ready (m : Model) (l : List ℕ) (w : Walk) (a b s : List ℕ) : Type 0 where
+pub record Ready (m : Model) (l : List ℕ) (w : Walk) (a b : List ℕ) (o : Output) : Type 0 where
   pub pageable : Pageable m l
   pub stacks : Room (length l / 2) w a b
-  pub lines : 73 * (length l / 2) ≤ length s
+  pub room : o.at + 73 * (length l / 2) ≤ length o.store.now
 
 -- The lines of the first i steps stand.
-pub record Printing (m : Model) (l : List ℕ) (w : Walk) (a b s : List ℕ) (v : Walk) (c d z : List ℕ) (at i : ℕ) : Type 0 where
-  pub ready : Ready m l w a b s
+pub record Printing (m : Model) (l : List ℕ) (w : Walk) (a b : List ℕ) (o : Output) (v : Walk) (c d : List ℕ) (p : Output) (i : ℕ)
+    : Type 0 where
+  pub ready : Ready m l w a b o
   pub place : i ≤ length l / 2
   pub first : length c ≡ length a
   pub second : length d ≡ length b
-  pub size : length z ≡ length s
   pub one : v.a ≤ w.a + i
   pub two : v.b ≤ w.b + i
-  pub ends : at ≡ 73 * i
+  pub ends : p.at ≡ o.at + 73 * i
   pub done : List ℕ
-  pub put : Put s z 0 at done
+  pub put : Appends o p done
   pub whole : done ++ page_lines m (i + 1) (config_of v c d) (steps_from l i) ≡ page_lines m 1 (config_of w a b) (steps_of l)
 
-pub printing_start : {m : Model} {l : List ℕ} {w : Walk} {a b s : List ℕ} → Ready m l w a b s → Printing m l w a b s w a b s 0 0
-printing_start {s = s} r =
+pub printing_start : {m : Model} {l : List ℕ} {w : Walk} {a b : List ℕ} {o : Output} → Ready m l w a b o
+    → Printing m l w a b o w a b o 0
+printing_start {o = o} r =
     record {
       ready = r;
       place = omega arith;
       first = refl;
       second = refl;
-      size = refl;
       one = omega arith;
       two = omega arith;
-      ends = refl;
+      ends = omega arith;
       done = [];
-      put = nothing s 0;
+      put = nothing o;
       whole = refl;
     }
 
-module _ {m : Model} {l : List ℕ} {w : Walk} {a b s : List ℕ} {v : Walk} {c d z : List ℕ} {at i : ℕ}
-    (p : Printing m l w a b s v c d z at i) where
+module _ {m : Model} {l : List ℕ} {w : Walk} {a b : List ℕ} {o : Output} {v : Walk} {c d : List ℕ} {z : Output} {i : ℕ}
+    (p : Printing m l w a b o v c d z i) where
   -- Before the last, the next step is the part that is walked.
   module _ (h : i < length l / 2) where
     step : walk_on m (config_of v c d) (steps_of (part_at l i)) ≡ step_from m (config_of v c d) (step_at l i)
@@ -109,57 +111,57 @@ module _ {m : Model} {l : List ℕ} {w : Walk} {a b s : List ℕ} {v : Walk} {c 
           record { first = omega (arith, stacks.first, p.one, p.first); second = omega (arith, stacks.second, p.two, p.second) },
         )
 
-    -- .. and for its line, if it is made ..
-    pub line_room : (u : Walk) (c' d' : List ℕ) → accepted (config_of u c' d') ≡ walk_on m (config_of v c d) (steps_of (part_at l i))
-        → (u.a ≤ v.a + length (part_at l i) / 2) × (u.b ≤ v.b + length (part_at l i) / 2)
-        → length c' ≡ length c → length d' ≡ length d
-        → StepFits (i + 1) (step_at l i).turn (step_at l i).rule u.shared ×
-        (((u.a ≤ length c') × (u.b ≤ length d')) × (at + 73 ≤ length z))
-    line_room u c' d' e k x y =
-        let ready = p.ready in
-        let grown = rw (one_step l i h) at k in (
-          shows m (config_of v c d) (step_at l i) (i + 1) (omega (arith, ready.pageable.most)) ready.pageable.fits (sym (e ∙ step)),
-          (
-            (omega (arith, ready.stacks.first, p.one, p.first), omega (arith, ready.stacks.second, p.two, p.second)),
-            omega (arith, ready.lines, p.size, p.ends),
-          ),
-        )
+    module _ (u : Walk) (c' d' : List ℕ) (e : accepted (config_of u c' d') ≡ walk_on m (config_of v c d) (steps_of (part_at l i)))
+        (k : (u.a ≤ v.a + length (part_at l i) / 2) × (u.b ≤ v.b + length (part_at l i) / 2)) (x : length c' ≡ length c)
+        (y : length d' ≡ length d) where
+      -- .. where it is made, its line fits its columns ..
+      pub line_fits : StepFits (i + 1) (step_at l i).turn (step_at l i).rule u.shared.0
+      line_fits =
+          shows m (config_of v c d) (step_at l i) (i + 1) (omega (arith, p.ready.pageable.most)) p.ready.pageable.fits (sym (e ∙ step))
 
-    -- .. which is put ..
-    pub printing_next : {u : Walk} {c' d' : List ℕ} → accepted (config_of u c' d') ≡ walk_on m (config_of v c d) (steps_of (part_at l i))
-        → (u.a ≤ v.a + length (part_at l i) / 2) × (u.b ≤ v.b + length (part_at l i) / 2)
-        → length c' ≡ length c → length d' ≡ length d
-        → {z' : List ℕ} {at' : ℕ} → Put z z' at at' (page_line (i + 1) (step_at l i) (config_of u c' d')) → at' ≡ at + 73
-        → Printing m l w a b s u c' d' z' at' (i + 1)
-    unfolding page_lines
-    printing_next {u} {c'} {d'} e k x y q f =
-        let line = page_line (i + 1) (step_at l i) (config_of u c' d') in
-        let made : accepted (config_of u c' d') ≡ step_from m (config_of v c d) (step_at l i) = e ∙ step in
-        let grown = rw (one_step l i h) at k in
-        record {
-          ready = p.ready;
-          place = omega arith;
-          first = x ∙ p.first;
-          second = y ∙ p.second;
-          size = rw q.stored (length-sets z at line ∙ p.size);
-          one = omega (arith, p.one);
-          two = omega (arith, p.two);
-          ends = omega (arith, p.ends);
-          done = p.done ++ line;
-          put = p.put then q;
-          whole = rw (append_assoc, add-one (i + 1)) (rw (first_step l i h, ← made) at p.whole);
-        }
+      line_size : length (page_line (i + 1) (step_at l i) (config_of u c' d')) ≡ 73
+      line_size = length_line {s = step_at l i} (config_of u c' d') line_fits
 
-    -- .. a step that is refused is the last ..
+      -- .. and there is room for it and its stacks ..
+      pub line_stacks : (u.a ≤ length c') × (u.b ≤ length d')
+      line_stacks =
+          let grown = rw (one_step l i h) at k in
+          let stacks = p.ready.stacks in
+          (omega (arith, stacks.first, p.one, p.first), omega (arith, stacks.second, p.two, p.second))
+
+      pub line_room : HasRoom z (page_line (i + 1) (step_at l i) (config_of u c' d'))
+      line_room = omega (arith, line_size, p.ready.room, p.put.size, p.ends)
+
+      -- .. it is put ..
+      pub printing_next : {z' : Output} → Appends z z' (page_line (i + 1) (step_at l i) (config_of u c' d'))
+          → Printing m l w a b o u c' d' z' (i + 1)
+      unfolding page_lines
+      printing_next q =
+          let made : accepted (config_of u c' d') ≡ step_from m (config_of v c d) (step_at l i) = e ∙ step in
+          let grown = rw (one_step l i h) at k in
+          record {
+            ready = p.ready;
+            place = omega arith;
+            first = x ∙ p.first;
+            second = y ∙ p.second;
+            one = omega (arith, p.one);
+            two = omega (arith, p.two);
+            ends = omega (arith, p.ends, q.put.ends, line_size);
+            done = p.done ++ page_line (i + 1) (step_at l i) (config_of u c' d');
+            put = p.put then q;
+            whole = rw (append_assoc, add-one (i + 1)) (rw (first_step l i h, ← made) at p.whole);
+          }
+
+    -- .. and a step that is refused is the last.
     pub printing_stops : {n : ℕ} → refused n ≡ walk_on m (config_of v c d) (steps_of (part_at l i))
-        → Put s z 0 at (page_lines m 1 (config_of w a b) (steps_of l))
+        → Appends o z (page_lines m 1 (config_of w a b) (steps_of l))
     unfolding page_lines
     printing_stops {n} e =
         let stopped : refused n ≡ step_from m (config_of v c d) (step_at l i) = e ∙ step in
         rw (rw (first_step l i h, ← stopped, append-nil) at p.whole) at p.put
 
-  -- .. and past the last step all lines stand.
-  pub printing_ends : length l / 2 ≤ i → Put s z 0 at (page_lines m 1 (config_of w a b) (steps_of l))
+  -- Past the last step all lines stand.
+  pub printing_ends : length l / 2 ≤ i → Appends o z (page_lines m 1 (config_of w a b) (steps_of l))
   unfolding page_lines
   printing_ends h =
       rw (rw (short (drop (2 * i) l) (simp length-drop (omega arith)), append-nil) at p.whole) at p.put

@@ -4,13 +4,11 @@ use mathlib.Core.Path.{◌≡◌, refl}
 use Prim.Native.Nat.{ℕ, zero, suc, ◌+◌, ◌-◌, ◌≤◌, ◌<◌, min}
 use native.Mathlib.Nat.{min-zero, min_comm, suc-min-suc}
 use native.Mathlib.Omega.{arith}
-use lib.ListN.{length, take, get_or, set, length-map, length-take}
+use lib.ListN.{length, take, get_or, length-map, length-take}
 use lib.Seq.{length-take-le}
 use Rattle.text.specs.Text.{blanks, left_aligned}
 use Rattle.walk.specs.Stack.{top_first}
 use Rattle.walk.proofs.Stacks.{length_top, from_top}
-use Rattle.writer.specs.Put.{Put}
-use Rattle.writer.proofs.Puts.{◌then◌}
 use Rattle.page.specs.Page.{hex_digit, stack_columns}
 
 -- So many symbols have as many digits.
@@ -27,12 +25,10 @@ one_more f (x ∷ w) (suc i) h =
     rw (e, one_more f w i (omega arith))
 
 -- The digit of the next symbol follows those that stand.
-pub symbol_next : {l m : List ℕ} {at : ℕ} (d : ℕ) (stack : List ℕ) (i v : ℕ) → i < d → v ≡ hex_digit (get_or stack (d - 1 - i) 0)
-    → Put l m at (at + i) (map hex_digit (take i (top_first d stack)))
-    → Put l (set m (at + i) v) at (at + (i + 1)) (map hex_digit (take (i + 1) (top_first d stack)))
-symbol_next d stack i v h e p =
+pub symbol_next : (d : ℕ) (stack : List ℕ) (i v : ℕ) → i < d → v ≡ hex_digit (get_or stack (d - 1 - i) 0)
+    → map hex_digit (take (i + 1) (top_first d stack)) ≡ map hex_digit (take i (top_first d stack)) ++ (v ∷ [])
+symbol_next d stack i v h e =
     rw (one_more hex_digit (top_first d stack) i (rw (length_top d stack) h), from_top d stack i h, ← e)
-    (p then record { stored = refl; ends = omega arith })
 
 -- No more can be taken than there are.
 take_least : (n : ℕ) (w : List ℕ) → take (min n (length w)) w ≡ take n w

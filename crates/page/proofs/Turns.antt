@@ -1,6 +1,6 @@
 -- Turns that have a step. Where turn numbers never fall, a step is the last of its turn exactly if the next one is of another turn;
 -- and there are no more turns with a step than turns.
-use mathlib.Core.Bool.{Bool, true, false, cond}
+use mathlib.Core.Bool.{Bool, true, false, cond, not}
 use mathlib.Core.List.{List, [], ◌∷◌}
 use mathlib.Core.Logic.{⊎_elim}
 use mathlib.Core.Path.{◌≡◌, refl, sym, subst}
@@ -8,7 +8,9 @@ use Prim.Native.Nat.{ℕ, zero, suc, ◌+◌, ◌*◌, ◌/◌, ◌≤◌, ◌<�
 use native.Mathlib.Nat.{eq-or-lt_of_le}
 use native.Mathlib.Omega.{arith}
 use lib.ListN.{length, drop, length-drop}
-use borrow.Author.Tests.{eq-eqb, ne_eqb}
+use lib.Dec.{eqb}
+use mir.Val.{bool_byte}
+use borrow.Author.Tests.{eq-eqb, ne_eqb, eqb-true, eqb-false}
 use Rattle.model.specs.declared.Model.{Model}
 use Rattle.model.specs.Results.{accepted}
 use Rattle.model.specs.Runs.{TurnsBelow}
@@ -115,6 +117,24 @@ module _ (l : List ℕ) (r : Rises 0 (steps_of l)) where
   pub last_step : (i : ℕ) → length l / 2 ≤ i + 1 → step_in (step_at l i).turn (steps_from l (i + 1)) ≡ false
   unfolding step_in
   last_step i h = rw (short (drop (2 * (i + 1)) l) (simp length-drop (omega arith)))
+
+  -- So the test of the next step's turn tells.
+  pub next_tells : (i : ℕ) → i + 1 < length l / 2
+      → not (eqb (step_at l (i + 1)).turn (step_at l i).turn) ≡ not (step_in (step_at l i).turn (steps_from l (i + 1)))
+  next_tells i h = go (eqb (step_at l (i + 1)).turn (step_at l i).turn) refl
+    where
+      go : (b : Bool) → eqb (step_at l (i + 1)).turn (step_at l i).turn ≡ b → not b ≡ not (step_in (step_at l i).turn (steps_from l (i + 1)))
+      go true e = rw (same_turn i h (eqb-true _ _ e)) refl
+      go false e = rw (other_turn i h (eqb-false _ _ e)) refl
+
+-- A turn that ends is counted as a byte is, 1 or 0.
+pub turn_byte : (b : Bool) → bool_byte (not b) ≡ cond b 0 1
+turn_byte true = refl
+turn_byte false = refl
+
+pub byte_low : (b : Bool) → bool_byte b ≤ 1
+byte_low true = omega arith
+byte_low false = omega arith
 
 -- The turns that end at place i, and those that end later.
 pub turns_on : (l : List ℕ) (i : ℕ) → i < length l / 2

@@ -1,37 +1,39 @@
 // The foot line, and how many turns have a step.
-ghost use Rattle.std.specs.Prelude.{cond, ◌≡◌, ◌+◌, ◌*◌, ◌/◌, ◌≤◌, ◌<◌, length};
+ghost use Rattle.std.specs.Prelude.{not, ◌≡◌, ◌+◌, ◌/◌, ◌≤◌, ◌<◌, length};
 ghost use Rattle.model.specs.Schedules.{steps_of, step_at, steps_from};
 ghost use Rattle.page.specs.Page.{step_in, turns_in, average, foot_line};
 ghost use Rattle.page.specs.Parts.{FootFits, Rises};
-ghost use Rattle.writer.specs.Put.{Put};
+ghost use Rattle.writer.specs.Output.{Appends, HasRoom};
 
-use crate::line;
+use crate::line::put_column;
+use writer::Output;
 
 // Puts the foot line of so many steps, which are made in so many turns.
-pub fn put_foot(store: &mut [u8], at: usize, steps: usize, turns: usize) -> usize
-    requires fact_1 { FootFits steps turns }
-    requires fact_2 { at + 73 ≤ length store.old }
-    ensures { Put store.old store.new at result (foot_line steps turns) }
+#[tactic(auto, using(writer::proofs::Outputs::appended, crate::proofs::Widths::steps_fit, crate::proofs::Widths::turns_fit), unfolding(crate::specs::Page::foot_line))]
+pub fn put_foot(out: &mut Output, steps: usize, turns: usize)
+    requires fits { FootFits steps turns }
+    requires room { HasRoom out.old (foot_line steps turns) }
+    ensures { Appends out.old out.new (foot_line steps turns) }
 {
-    let mut next = line::put_column(store, at, 4, steps as u64);
-    next = line::put_column(store, next, 1, turns as u64);
-    next = put_average(store, next, steps, turns);
-    next = text::put_blanks(store, next, 58);
-    text::put(store, next, b"\n")
+    put_column(out, 4, steps as u64);
+    put_column(out, 1, turns as u64);
+    put_average(out, steps, turns);
+    out.repeat(b' ', 58);
+    out.byte(b'\n');
 }
 
 // Puts the steps divided by the turns, whole part and remainder.
-fn put_average(store: &mut [u8], at: usize, steps: usize, turns: usize) -> usize
-    requires fact_1 { FootFits steps turns }
-    requires fact_2 { at + 7 ≤ length store.old }
-    ensures text { Put store.old store.new at result (average steps turns) }
-    ensures place { result ≡ at + 7 }
+fn put_average(out: &mut Output, steps: usize, turns: usize)
+    requires fits { FootFits steps turns }
+    requires room { HasRoom out.old (average steps turns) }
+    ensures { Appends out.old out.new (average steps turns) }
 {
     if steps == 0 {
-        return text::put_blanks(store, at, 7);
+        out.repeat(b' ', 7);
+    } else {
+        put_column(out, 4, (steps / turns) as u64);
+        put_column(out, 1, (steps % turns) as u64);
     }
-    let next = line::put_column(store, at, 4, (steps / turns) as u64);
-    line::put_column(store, next, 1, (steps % turns) as u64)
 }
 
 // How many turns of a schedule have a step.
@@ -39,28 +41,19 @@ pub fn turns(schedule: &[u8]) -> usize
     requires { Rises 0 (steps_of schedule.now) }
     ensures { result ≡ turns_in (steps_of schedule.now) }
 {
-    let n = schedule.len() / 2;
     let mut count = 0;
-    let mut i = 0;
-    while i < n {
-        count += ends_turn(schedule, i);
-        i += 1;
+    for i in 0..schedule.len() / 2 {
+        count += usize::from(ends_turn(schedule, i));
     }
     count
 }
 
-// 1 where the step at place i is the last of its turn, else 0. Since turn numbers never fall, the next step tells.
-fn ends_turn(schedule: &[u8], i: usize) -> usize
-    requires fact_1 { i < length schedule.now / 2 }
-    requires fact_2 { Rises 0 (steps_of schedule.now) }
-    ensures { (result ≡ cond (step_in (step_at schedule.now i).turn (steps_from schedule.now (i + 1))) 0 1)
-        × (result ≤ 1) }
+// Whether the step at place i is the last of its turn. Since turn numbers never fall, the next step tells.
+fn ends_turn(schedule: &[u8], i: usize) -> bool
+    requires place { i < length schedule.now / 2 }
+    requires rises { Rises 0 (steps_of schedule.now) }
+    ensures { result ≡ not (step_in (step_at schedule.now i).turn (steps_from schedule.now (i + 1))) }
 {
     let next = i + 1;
-    if next < schedule.len() / 2 {
-        if schedule[2 * next] == schedule[2 * i] {
-            return 0;
-        }
-    }
-    1
+    next == schedule.len() / 2 || schedule[2 * next] != schedule[2 * i]
 }

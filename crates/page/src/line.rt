@@ -1,109 +1,80 @@
 // The line of a step.
-ghost use Rattle.std.specs.Prelude.{map, ◌≡◌, ◌+◌, ◌≤◌, ◌<◌, min, length, take};
+ghost use Rattle.std.specs.Prelude.{◌≡◌, ◌≤◌, length};
 ghost use Rattle.text.specs.Text.{decimal};
 ghost use Rattle.page.specs.Page.{column, hex_digit, stack_columns, mark, step_head, step_stacks, page_line};
 ghost use Rattle.page.specs.Parts.{StepFits};
 ghost use Rattle.walk.specs.Stack.{top_first, config_of};
-ghost use Rattle.writer.specs.Put.{Put};
+ghost use Rattle.writer.specs.Output.{Appends, HasRoom};
 
 use walk::Walk;
+use writer::Output;
 
 // How many symbols of a stack are shown.
 const SHOWN: usize = 28;
 
 // Puts the line of step n, after which the walk is where w says.
-pub fn put_step(
-    store: &mut [u8],
-    at: usize,
-    n: usize,
-    turn: u8,
-    rule: u8,
-    w: Walk,
-    a: &[u8],
-    b: &[u8],
-) -> usize
-    requires fact_1 { StepFits n turn rule w.shared }
-    requires fact_2 { (w.a ≤ length a.now) × (w.b ≤ length b.now) }
-    requires fact_3 { at + 73 ≤ length store.old }
-    ensures text { Put store.old store.new at result
+#[tactic(auto, using(writer::proofs::Outputs::appended), unfolding(crate::specs::Page::page_line))]
+pub fn put_step(out: &mut Output, n: usize, turn: u8, rule: u8, w: Walk, a: &[u8], b: &[u8])
+    requires fits { StepFits n turn rule w.shared.0 }
+    requires stacks { (w.a ≤ length a.now) × (w.b ≤ length b.now) }
+    requires room { HasRoom out.old
         (page_line n (record { turn = turn; rule = rule }) (config_of w a.now b.now)) }
-    ensures place { result ≡ at + 73 }
+    ensures { Appends out.old out.new
+        (page_line n (record { turn = turn; rule = rule }) (config_of w a.now b.now)) }
 {
-    let next = put_head(store, at, n, turn, rule, w.shared);
-    put_stacks(store, next, w, a, b)
+    put_head(out, n, turn, rule, w.shared.0);
+    put_stacks(out, w, a, b);
 }
 
 // Puts the step's number, turn, thread and rule, and the shared state after it.
-fn put_head(store: &mut [u8], at: usize, n: usize, turn: u8, rule: u8, shared: u8) -> usize
-    requires fact_1 { StepFits n turn rule shared }
-    requires fact_2 { at + 14 ≤ length store.old }
-    ensures text { Put store.old store.new at result
-        (step_head n (record { turn = turn; rule = rule }) shared) }
-    ensures place { result ≡ at + 14 }
+#[tactic(auto, using(writer::proofs::Outputs::appended, text::proofs::Numbers::digits_1, text::proofs::Numbers::digits_2, text::proofs::Numbers::digits_4), unfolding(crate::specs::Page::step_head))]
+fn put_head(out: &mut Output, n: usize, turn: u8, rule: u8, shared: u8)
+    requires fits { StepFits n turn rule shared }
+    requires room { HasRoom out.old (step_head n (record { turn = turn; rule = rule }) shared) }
+    ensures { Appends out.old out.new (step_head n (record { turn = turn; rule = rule }) shared) }
 {
-    let mut next = put_column(store, at, 4, n as u64);
-    next = put_column(store, next, 1, turn as u64);
-    let thread = [text::letter_of(turn), b' '];
-    next = text::put(store, next, &thread);
-    next = put_column(store, next, 2, rule as u64);
-    put_column(store, next, 1, shared as u64)
+    put_column(out, 4, n as u64);
+    put_column(out, 1, turn as u64);
+    out.byte(text::letter_of(turn));
+    out.byte(b' ');
+    put_column(out, 2, rule as u64);
+    put_column(out, 1, shared as u64);
 }
 
 // Puts both stacks, the mark and the line's end.
-fn put_stacks(store: &mut [u8], at: usize, w: Walk, a: &[u8], b: &[u8]) -> usize
-    requires fact_1 { (w.a ≤ length a.now) × (w.b ≤ length b.now) }
-    requires fact_2 { at + 59 ≤ length store.old }
-    ensures text { Put store.old store.new at result
-        (step_stacks (config_of w a.now b.now).stacks) }
-    ensures place { result ≡ at + 59 }
+#[tactic(auto, using(writer::proofs::Outputs::appended), unfolding(crate::specs::Page::step_stacks))]
+fn put_stacks(out: &mut Output, w: Walk, a: &[u8], b: &[u8])
+    requires stacks { (w.a ≤ length a.now) × (w.b ≤ length b.now) }
+    requires room { HasRoom out.old (step_stacks (config_of w a.now b.now).stacks) }
+    ensures { Appends out.old out.new (step_stacks (config_of w a.now b.now).stacks) }
 {
-    let mut next = put_stack(store, at, w.a, a);
-    next = writer::put_byte(store, next, b' ');
-    next = put_stack(store, next, w.b, b);
-    let end = [mark_of(w.a, w.b), b'\n'];
-    text::put(store, next, &end)
+    put_stack(out, w.a, a);
+    out.byte(b' ');
+    put_stack(out, w.b, b);
+    out.byte(mark_of(w.a, w.b));
+    out.byte(b'\n');
 }
 
 // Puts a number right-aligned in so many columns, and a blank column.
-pub fn put_column(store: &mut [u8], at: usize, width: usize, n: u64) -> usize
-    requires { (length (decimal n) ≤ width) × (at + width + 1 ≤ length store.old) }
-    ensures text { Put store.old store.new at result (column width n) }
-    ensures place { result ≡ at + width + 1 }
+#[tactic(auto, using(writer::proofs::Outputs::appended), unfolding(crate::specs::Page::column))]
+pub fn put_column(out: &mut Output, width: usize, n: u64)
+    requires { (length (decimal n) ≤ width) × HasRoom out.old (column width n) }
+    ensures { Appends out.old out.new (column width n) }
 {
-    let next = text::put_right(store, at, width, n);
-    writer::put_byte(store, next, b' ')
+    text::put_right(out, width, n);
+    out.byte(b' ');
 }
 
-// Puts the columns of a stack.
-fn put_stack(store: &mut [u8], at: usize, depth: usize, stack: &[u8]) -> usize
-    requires { (depth ≤ length stack.now) × (at + 28 ≤ length store.old) }
-    ensures text { Put store.old store.new at result (stack_columns (top_first depth stack.now)) }
-    ensures place { result ≡ at + 28 }
+// Puts the columns of a stack: a digit for each of its topmost symbols, and blanks where there are fewer than are shown.
+fn put_stack(out: &mut Output, depth: usize, stack: &[u8])
+    requires { (depth ≤ length stack.now) × HasRoom out.old (stack_columns (top_first depth stack.now)) }
+    ensures { Appends out.old out.new (stack_columns (top_first depth stack.now)) }
 {
-    let shown = shown_of(depth);
-    let next = put_symbols(store, at, depth, stack, shown);
-    text::put_blanks(store, next, SHOWN - shown)
-}
-
-// How many symbols of a stack of this depth are shown.
-fn shown_of(depth: usize) -> usize
-    ensures { result ≡ min 28 depth }
-{
-    if depth < SHOWN { depth } else { SHOWN }
-}
-
-// Puts a digit for each of the n topmost symbols of a stack.
-fn put_symbols(store: &mut [u8], at: usize, depth: usize, stack: &[u8], n: usize) -> usize
-    requires { (n ≤ depth) × (depth ≤ length stack.now) × (at + n ≤ length store.old) }
-    ensures { Put store.old store.new at result
-        (map hex_digit (take n (top_first depth stack.now))) }
-{
-    let mut i = 0;
-    while i < n {
-        store[at + i] = hex_digit(stack[depth - 1 - i]);
-        i += 1;
+    let shown = SHOWN.min(depth);
+    for i in 0..shown {
+        out.byte(hex_digit(stack[depth - 1 - i]));
     }
-    at + n
+    out.repeat(b' ', SHOWN - shown);
 }
 
 // The digit of a symbol.
@@ -111,7 +82,11 @@ fn hex_digit(symbol: u8) -> u8
     ensures { result ≡ hex_digit symbol }
 {
     let digit = symbol % 16;
-    if digit < 10 { 48 + digit } else { 87 + digit }
+    if digit < 10 {
+        b'0' + digit
+    } else {
+        b'a' + (digit - 10)
+    }
 }
 
 // The mark of a line, by the depths of both stacks.
@@ -119,8 +94,5 @@ fn hex_digit(symbol: u8) -> u8
 fn mark_of(a: usize, b: usize) -> u8
     ensures { result ≡ mark a b }
 {
-    if SHOWN < a {
-        return b'+';
-    }
-    if SHOWN < b { b'+' } else { b' ' }
+    if SHOWN < a || SHOWN < b { b'+' } else { b' ' }
 }

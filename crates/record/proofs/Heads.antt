@@ -3,7 +3,8 @@ use mathlib.Core.Bool.{Bool, true, false, not, cond}
 use mathlib.Core.List.{List, [], ◌∷◌, ◌++◌}
 use mathlib.Core.Path.{◌≡◌, refl, ◌∙◌}
 use Prim.Native.Nat.{ℕ, suc, ◌+◌, ◌≤◌, ◌<◌, zero-le}
-use native.Mathlib.Nat.{zero-add, add-zero, suc-add}
+use native.Mathlib.Nat.{add-zero}
+use Rattle.std.proofs.lemmas.List.{get_or-append-add}
 use native.Mathlib.Omega.{arith}
 use lib.Dec.{T, eqb}
 use lib.ListN.{length, get_or}
@@ -75,11 +76,6 @@ head_back m f p rest =
       field_back 3 0 m.b.first.0 _ b.bit5 zero-le second,
     )
 
--- The bytes behind others.
-behind : (xs ys : List ℕ) (i : ℕ) → get_or (xs ++ ys) (length xs + i) 0 ≡ get_or ys i 0
-behind [] ys i = rw zero-add
-behind (x ∷ xs) ys i = rw suc-add (behind xs ys i)
-
 -- A field that was read takes a byte exactly if its bit stands.
 field_size : {present : Bool} {low limit default v : ℕ} {bs rest : List ℕ} → FieldRead present low limit default v bs rest
     → length (field_of default v) ≡ one_if present
@@ -93,7 +89,7 @@ field_size {default = default} {v = v} f = rw f.stands (go (eqb v default))
 -- What is left after a field that was read.
 past : {present : Bool} {low limit default v : ℕ} {bs rest : List ℕ} → FieldRead present low limit default v bs rest → (i : ℕ)
     → get_or bs (one_if present + i) 0 ≡ get_or rest i 0
-past {default = default} {v = v} {rest = rest} f i = rw (f.bytes, ← field_size f) (behind (field_of default v) rest i)
+past {default = default} {v = v} {rest = rest} f i = rw (f.bytes, ← field_size f) (get_or-append-add (field_of default v) rest i 0)
 
 -- The target byte comes after the map, G, K and the start state, and what follows it is behind it.
 pub target_place_lem : {map g k start : ℕ} {bs m₁ m₂ m₃ m₄ : List ℕ} → bs ≡ map ∷ m₁

@@ -5,8 +5,8 @@ use mathlib.Core.Path.{◌≡◌, refl, sym, ap, ◌∙◌}
 use Prim.Native.Nat.{ℕ}
 use native.Mathlib.Omega.{arith}
 use lib.Dec.{T, T_not, leb, eqb}
-use lib.ListN.{length, get_or, take, drop, replicate, length-append, drop_of_length-le, take-append-drop}
-use lib.Seq.{take_all, take_at, drop_at, drop-cons, length-take-le}
+use lib.ListN.{length, take, replicate, length-append, take-append-drop}
+use lib.Seq.{take_all, take_at, drop_at, length-take-le}
 use borrow.Author.Tests.{le-leb}
 use Rattle.model.specs.declared.Model.{Model}
 use Rattle.model.specs.Bits.{all_zero}
@@ -19,23 +19,6 @@ use Rattle.model.specs.Zero.{no_marks}
 use Rattle.record.specs.Reader.{parse_marks}
 use Rattle.writer.specs.Writer.{held_bytes}
 use Rattle.record.proofs.OneField.{carried}
-
--- A list of eight is its elements one by one.
-pub eight : (l : List ℕ) → length l ≡ 8
-    → get_or l 0 0 ∷ get_or l 1 0 ∷ get_or l 2 0 ∷ get_or l 3 0 ∷ get_or l 4 0 ∷ get_or l 5 0 ∷ get_or l 6 0 ∷ get_or l 7 0 ∷ [] ≡ l
-eight l e =
-    let end : drop 8 l ≡ [] = drop_of_length-le l {i = 8} (omega arith) in
-    rw (
-      ← end,
-      ← drop-cons l 7 0 (omega arith),
-      ← drop-cons l 6 0 (omega arith),
-      ← drop-cons l 5 0 (omega arith),
-      ← drop-cons l 4 0 (omega arith),
-      ← drop-cons l 3 0 (omega arith),
-      ← drop-cons l 2 0 (omega arith),
-      ← drop-cons l 1 0 (omega arith),
-      ← drop-cons l 0 0 (omega arith),
-    )
 
 -- Bytes that are all zero are that many zeros.
 zeros : (l : List ℕ) → T (all_zero l) → l ≡ replicate (length l) 0

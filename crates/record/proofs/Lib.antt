@@ -1,4 +1,3 @@
-pub mod Answers
 pub mod Decided
 pub mod Determined
 pub mod Files
@@ -9,11 +8,12 @@ pub mod Lists
 pub mod Maps
 pub mod Older
 pub mod OneField
-pub mod Parts
 pub mod Records
+pub mod Refused
 pub mod RuleLists
 pub mod SecondMaps
 pub mod Steady
 pub mod ThreadRules
 pub mod Tops
 pub mod Uncounted
+pub mod Writing

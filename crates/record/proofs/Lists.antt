@@ -1,29 +1,25 @@
 -- A list of rules read one by one into 64 places: those read so far stand before those still to come, whose keys are above theirs.
+use mathlib.Core.Bool.{Bool, true}
 use mathlib.Core.List.{List, [], ◌∷◌, ◌++◌, append_assoc, append-nil}
-use mathlib.Core.Path.{◌≡◌, refl, sym, ◌∙◌}
-use Prim.Native.Nat.{ℕ, suc, ◌+◌, ◌-◌, ◌≤◌, ◌<◌}
+use mathlib.Core.Path.{◌≡◌, refl, sym}
+use Prim.Native.Nat.{ℕ, suc, ◌+◌, ◌-◌, ◌≤◌, ◌<◌, zero-le}
 use native.Mathlib.Numerals.{add-one}
 use native.Mathlib.Omega.{arith}
 use lib.ListN.{length, take, set, replicate}
 use lib.Seq.{take-suc-set}
-use borrow.Author.Tests.{le-leb, lt-leb}
+use lib.Dec.{leb}
 use Rattle.model.specs.declared.Rule.{Rule}
 use Rattle.model.specs.Order.{key_of}
-use Rattle.model.specs.Results.{refused, accepted}
+use Rattle.model.specs.declared.refusal.Refusal.{Refusal}
+use Rattle.model.specs.Refusals.{number_of}
+use Rattle.model.specs.Results.{refused, accepted, refuse}
+use Rattle.model.proofs.Refusals.{number_some}
 use Rattle.model.specs.Rules.{zero_rule}
 use Rattle.model.specs.Zero.{Padded}
 use Rattle.model.proofs.Padded.{padded_none, padded_more}
-use Rattle.record.specs.declared.RuleList.{RuleList}
-use Rattle.record.specs.declared.Taken.TheVariants.{Refused}
-use Rattle.record.specs.Reader.{Read, and_read, parse_rule, parse_rule_list}
-use Rattle.record.specs.Held.{Reads, list_of}
-use Rattle.record.proofs.Parts.{refuses}
-
--- A refusal comes with the rules read so far.
-pub refused_list : {s : List ℕ} {l : RuleList} {m count : ℕ} {rs : List Rule} {wanted : Read (List Rule)}
-    → l ≡ record { answer = Refused m; count = count; rules = rs } → refused m ≡ wanted → Padded zero_rule count rs
-    → Reads s (list_of l) wanted × Padded zero_rule l.count l.rules
-refused_list e h p = rw e (refuses h, p)
+use Rattle.record.specs.Reader.{Read, and_read, parse_field, parse_rule, parse_rule_list, parse_rules}
+use Rattle.record.proofs.OneField.{field_forth}
+use Rattle.record.proofs.Refused.{unrefused, refused_test}
 
 -- Rules before a list that is read.
 abbrev pub prepend : List Rule → Read (List Rule) → Read (List Rule)
@@ -46,47 +42,59 @@ pub record Progress (wanted : Read (List Rule)) (g n i least : ℕ) (rs : List R
   pub padded : Padded zero_rule i rs
   pub same : wanted ≡ prepend (take i rs) (parse_rule_list g least (n - i) left)
 
--- No rule is read yet.
-pub starts : {wanted : Read (List Rule)} (g n : ℕ) (left : List ℕ) → n ≤ 64 → wanted ≡ parse_rule_list g 0 n left
-    → Progress wanted g n 0 0 (replicate 64 zero_rule) left
-starts g n left h e =
+-- A count that is refused, and with it the list.
+pub uncounted : (present : Bool) (g : ℕ) (bs : List ℕ) {m : ℕ} → refused m ≡ parse_field present 4 0 65 0 bs
+    → refused m ≡ parse_rules present g bs
+unfolding parse_rules
+uncounted present g bs e = rw (← e)
+
+-- No rule is read yet, and at most 64 are wanted.
+pub starts : (present : Bool) (g : ℕ) (bs : List ℕ) {n : ℕ} {left : List ℕ} → accepted (n, left) ≡ parse_field present 4 0 65 0 bs
+    → Progress (parse_rules present g bs) g n 0 0 (replicate 64 zero_rule) left
+unfolding parse_rules
+starts present g bs {n} {left} e =
+    let f = field_forth present 4 0 65 0 bs zero-le (omega arith) (sym e) in
+    let all : n - 0 ≡ n = omega arith in
     record {
-      low = omega arith;
-      fits = h;
+      low = zero-le;
+      fits = omega (arith, f.most);
       padded = padded_none;
-      same = let all : n - 0 ≡ n = omega arith in rw all (e ∙ prepend-nil (parse_rule_list g 0 n left));
+      same = rw (← e, all) (prepend-nil (parse_rule_list g 0 n left));
     }
 
 module _ {wanted : Read (List Rule)} {g n i least : ℕ} {rs : List Rule} {left : List ℕ}
     (p : Progress wanted g n i least rs left) where
   -- The next rule is read ..
-  pub steps : {r : Rule} {rest : List ℕ} {key : ℕ} → i < n → parse_rule g left ≡ accepted (r, rest) → key ≡ key_of r → least ≤ key
-      → Progress wanted g n (i + 1) (key + 1) (set rs i r) rest
+  pub steps : {r : Rule} {rest : List ℕ} {key : ℕ} → i < n → accepted (r, rest) ≡ parse_rule g left → key ≡ key_of r
+      → 0 ≡ refuse 13 (leb least key) → Progress wanted g n (i + 1) (key + 1) (set rs i r) rest
   unfolding parse_rule_list
   steps {r} {rest} h e k l =
       let cut : n - i ≡ suc (n - suc i) = omega arith in
       let inside : i < length rs = omega arith in
-      rw (k, add-one, add-one)
+      let enough : leb least (key_of r) ≡ true = unrefused 12 (leb least (key_of r)) (rw k at l) in
+      rw (k, add-one i, add-one (key_of r))
       (record {
         low = omega arith;
         fits = p.fits;
         padded = padded_more r p.padded (omega arith);
         same =
             rw (take-suc-set rs i r inside, ← prepend_cons (take i rs) r (parse_rule_list g (suc (key_of r)) (n - suc i) rest))
-            (rw (cut, e, le-leb least (key_of r) (omega arith)) at p.same);
+            (rw (cut, ← e, enough) at p.same);
       })
 
   -- .. or refused, and with it the list ..
-  pub breaks : {m : ℕ} → i < n → parse_rule g left ≡ refused m → refused m ≡ wanted
+  pub breaks : {m : ℕ} → i < n → refused m ≡ parse_rule g left → refused m ≡ wanted
   unfolding parse_rule_list
-  breaks h e = let cut : n - i ≡ suc (n - suc i) = omega arith in sym (rw (cut, e) at p.same)
+  breaks h e = let cut : n - i ≡ suc (n - suc i) = omega arith in sym (rw (cut, ← e) at p.same)
 
   -- .. or too low ..
-  pub falls : {r : Rule} {rest : List ℕ} {key : ℕ} → i < n → parse_rule g left ≡ accepted (r, rest) → key ≡ key_of r → key < least
-      → refused 13 ≡ wanted
+  pub falls : {r : Rule} {rest : List ℕ} {key : ℕ} → i < n → accepted (r, rest) ≡ parse_rule g left → key ≡ key_of r
+      → (x : Refusal) → number_of x ≡ refuse 13 (leb least key) → refused (number_of x) ≡ wanted
   unfolding parse_rule_list
-  falls {r} h e k l =
-      let cut : n - i ≡ suc (n - suc i) = omega arith in sym (rw (cut, e, lt-leb least (key_of r) (omega arith)) at p.same)
+  falls {r} h e k x l =
+      let cut : n - i ≡ suc (n - suc i) = omega arith in
+      let low = refused_test 13 (number_of x) (leb least (key_of r)) (number_some x) (rw k at l) in
+      rw low.0 (sym (rw (cut, ← e, low.1) at p.same))
 
   -- .. until none is left.
   pub stops : n ≤ i → accepted (take i rs, left) ≡ wanted

@@ -1,11 +1,10 @@
 -- Map bytes and their bits: a map is the sum of the weights of its bits, shown by one test computed over all bits and one
 -- over all bytes.
 use mathlib.Core.Bool.{Bool, true, false, not, ◌&&◌, ◌||◌, cond, beq, not-not, true≢false, false≢true}
-use mathlib.Core.Logic.{◌↔◌, inl, inr}
-use mathlib.Core.Path.{◌≡◌, refl, subst}
-use Prim.Native.Nat.{ℕ, zero, suc, ◌+◌, ◌<◌}
-use native.Mathlib.Nat.{le-suc_iff}
-use native.Mathlib.Omega.{arith}
+use mathlib.Core.Logic.{◌↔◌}
+use mathlib.Core.Path.{◌≡◌, refl}
+use Prim.Native.Nat.{ℕ, suc, ◌+◌, ◌<◌}
+use Rattle.std.proofs.lemmas.Bool.{agree_below_at, eqb-true}
 use lib.Dec.{T, ltb, eqb}
 use Rattle.model.specs.declared.Right.{Right}
 use Rattle.model.specs.declared.Right.TheVariants.{Remove, Swap, Push}
@@ -23,21 +22,6 @@ pub each : (f : Bool → Bool) → T (always f) → (b : Bool) → T (f b)
 unfolding always
 each f t true = ((both (f true) (f false)).0 t).0
 each f t false = ((both (f true) (f false)).0 t).1
-
--- A test that passes at all numbers below n.
-abbrev pub up_to : (ℕ → Bool) → ℕ → Bool
-up_to f zero = true
-up_to f (suc n) = f n && up_to f n
-
--- It passes at each.
-pub below : (f : ℕ → Bool) (n : ℕ) → T (up_to f n) → (k : ℕ) → k < n → T (f k)
-below f zero t k h = absurd (omega arith)
-below f (suc n) t k h =
-    let z = (both (f n) (up_to f n)).0 t in
-    elim (le-suc_iff.0 h) [
-      | inl l ↦ below f n z.1 k l
-      | inr e ↦ let same : n ≡ k = omega arith in subst (λ i. T (f i)) same z.0
-    ]
 
 -- Truth values that are tested to be the same are.
 pub same : (a b : Bool) → T (beq a b) ↔ (a ≡ b)
@@ -108,9 +92,10 @@ head_sum map =
     (not (bit 7 map)))
     map
 
-all_head_sums : T (up_to head_sum 256)
+-- It is one at each byte.
+head_summed : (map : ℕ) → map < 256 → head_sum map ≡ true
 unfolding head_sum
-all_head_sums = tt
+head_summed map h = agree_below_at head_sum (λ k. true) 256 map refl h
 
 -- A flag from its bit.
 flag : (absent b : Bool) → b ≡ not absent → not b ≡ absent
@@ -120,7 +105,6 @@ flag absent b e = rw e (not-not absent)
 pub head_sum_lem : {g k s a b ra rb : Bool} (map : ℕ) → map < 256 → HeadBits map g k s a b ra rb → head_map g k s a b ra rb ≡ map
 unfolding head_sum
 head_sum_lem {g} {k} {s} {a} {b} {ra} {rb} map h e =
-    let t = below head_sum 256 all_head_sums map h in
     let u =
     rw (
       e.bit3,
@@ -131,8 +115,8 @@ head_sum_lem {g} {k} {s} {a} {b} {ra} {rb} map h e =
       flag b (bit 5 map) e.bit5,
       flag ra (bit 6 map) e.bit6,
       flag rb (bit 7 map) e.bit7,
-    ) at t in
-    (equal (head_map g k s a b ra rb) map).0 u
+    ) at (head_summed map h) in
+    eqb-true (head_map g k s a b ra rb) map u
 
 -- The bits of the new symbols in a rule's map, by whether there is a first and a second.
 abbrev pub new_bits : Bool → Bool → ℕ
@@ -143,9 +127,10 @@ new_bits true true = 6
 rule_sum : ℕ → Bool
 rule_sum map = not (rule_map map) || eqb (cond (not (bit 0 map)) 0 1 + new_bits (bit 1 map) (bit 2 map)) map
 
-all_rule_sums : T (up_to rule_sum 8)
+-- It is one at each number of three bits.
+rule_summed : (map : ℕ) → map < 8 → rule_sum map ≡ true
 unfolding rule_sum
-all_rule_sums = tt
+rule_summed map h = agree_below_at rule_sum (λ k. true) 8 map refl h
 
 -- A rule's map is the sum of its bits.
 pub rule_sum_lem : (map : ℕ) → T (rule_map map) → (absent : Bool) (x : Right) → bit 0 map ≡ not absent
@@ -154,7 +139,7 @@ unfolding rule_sum
 rule_sum_lem map t absent x e f =
     let s : ℕ = cond (not (bit 0 map)) 0 1 + new_bits (bit 1 map) (bit 2 map) in
     let h = (order (suc map) 8).0 ((both (ltb map 8) (bit 1 map || not (bit 2 map))).0 t).0 in
-    let u = (equal s map).0 (given (rule_map map) (eqb s map) (below rule_sum 8 all_rule_sums map h) t) in
+    let u = (equal s map).0 (given (rule_map map) (eqb s map) (rw (rule_summed map h) tt) t) in
     rw (flag absent (bit 0 map) e, f) at u
 
 -- Whether a right side has a first and a second symbol.

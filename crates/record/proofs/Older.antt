@@ -17,8 +17,8 @@ use lib.Seq.{take-append_seam}
 use borrow.Author.Tests.{le-leb, lt-leb, le-ltb, lt-ltb}
 use Rattle.model.specs.declared.Model.{Model}
 use Rattle.model.specs.declared.Rule.{Rule}
-use Rattle.model.specs.declared.Top.{Top}
-use Rattle.model.specs.declared.Top.TheVariants.{Any, Named}
+use Rattle.model.specs.Tops.{Top}
+use Rattle.std.specs.Prelude.{None, Some}
 use Rattle.model.specs.Bits.{bit, all_zero}
 use Rattle.model.specs.Fits.{ThreadFits}
 use Rattle.model.specs.Order.{key_of}
@@ -203,9 +203,9 @@ newer_refused bs r h = elim (head_alike bs) [
 ]
 
 -- A top that is not named is any ..
-any : (t : Top) → false ≡ named t → t ≡ Any
-any Any e = refl
-any (Named x) e = absurd (true≢false (sym e))
+any : (t : Top) → false ≡ named t → t ≡ None
+any None e = refl
+any (Some x) e = absurd (true≢false (sym e))
 
 -- .. and a flag whose negation is false is true.
 flag : (f : Bool) → false ≡ not f → f ≡ true
@@ -213,7 +213,7 @@ flag true e = refl
 flag false e = absurd (true≢false (sym e))
 
 -- What says nothing of a thread is what no second map says of it.
-nothing : {t : Top} {held : List ℕ} {symbols : ℕ} → t ≡ Any → held ≡ no_marks → symbols ≡ 16
+nothing : {t : Top} {held : List ℕ} {symbols : ℕ} → t ≡ None → held ≡ no_marks → symbols ≡ 16
     → record { top = t; held = held; symbols = symbols } ≡ no_extra
 nothing p q r = rw (p, q, r)
 

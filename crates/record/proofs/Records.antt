@@ -17,10 +17,9 @@ use Rattle.model.specs.Rules.{zero_rule}
 use Rattle.model.specs.Valid.{Valid, cross_fault, SameThread, Same, Places}
 use Rattle.model.proofs.Alike.{same_valid}
 use Rattle.model.proofs.Ranges.{crossed, valid_fits}
-use Rattle.model.proofs.Results.{apart, undue}
+use Rattle.model.proofs.Results.{apart, accepted_same, undue}
 use Rattle.model.specs.Zero.{Unused}
-use Rattle.record.specs.declared.Reading.{Reading}
-use Rattle.record.specs.Kept.{Kept, Keeps}
+use Rattle.record.specs.Kept.{Kept}
 use Rattle.record.specs.Held.{reading_of}
 use Rattle.record.specs.Reader.{Read, announces, parse_rules, Head, parse_head, thread_from, model_of, parse_front, ended, read_of}
 use Rattle.record.specs.Older.{target_byte}
@@ -195,16 +194,11 @@ read_alone bs {m} {rest} e k =
     sym e ∙ (ap parse_front (f.bytes k) ∙ front_back m f.valid f.places rest) in
     record_back m f.valid f.places ∙ ap (λ (n : Model). accepted (n, [])) (sym (value_same again).0)
 
--- The reading of bytes keeps what it accepts.
-pub keeps : (bs : List ℕ) → get_or bs 0 0 < 256 → Keeps (reading_of (read_of bs)) bs
+-- A model that is the reading of bytes keeps them.
+pub keeps : (bs : List ℕ) {m : Model} → get_or bs 0 0 < 256 → accepted m ≡ reading_of (read_of bs) → Kept bs m
 unfolding reading_of
-keeps bs k = go (read_of bs) refl
+keeps bs {m} k = go (read_of bs) refl
   where
-    go : (r : Read Model) → read_of bs ≡ r → Keeps (reading_of r) bs
-    go (refused n) e = tt
-    go (accepted (m, rest)) e = read_kept bs e k
-
--- An answer that is the reading of bytes keeps what it accepts.
-pub kept_too : (bs : List ℕ) {r : Reading} → get_or bs 0 0 < 256 → r ≡ reading_of (read_of bs)
-    → (r ≡ reading_of (read_of bs)) × Keeps r bs
-kept_too bs k e = (e, subst (λ r. Keeps r bs) (sym e) (keeps bs k))
+    go : (r : Read Model) → read_of bs ≡ r → accepted m ≡ reading_of r → Kept bs m
+    go (refused n) f e = apart (sym e)
+    go (accepted (n, rest)) f e = rw (accepted_same e) (read_kept bs f k)

@@ -5,18 +5,19 @@ use mathlib.Core.List.{List}
 use mathlib.Core.Path.{◌≡◌, refl, ◌∙◌}
 use Prim.Native.Nat.{ℕ, ◌+◌, ◌%◌, ◌<◌}
 use lib.Dec.{T, ltb, eqb}
-use Rattle.model.specs.declared.Top.{Top}
-use Rattle.model.specs.declared.Top.TheVariants.{Any, Named}
+use Rattle.model.specs.Tops.{Top}
+use Rattle.std.specs.Prelude.{None, Some}
 use Rattle.model.specs.Bits.{bit, all_zero}
-use Rattle.model.proofs.Tests.{both, order, equal}
+use Rattle.model.proofs.Tests.{both, order}
 use Rattle.record.specs.Reader.{announces, state_of}
 use Rattle.writer.specs.Writer.{weight_of, top_weight, Second, second_map}
-use Rattle.record.proofs.Maps.{always, each, up_to, below, same}
+use Rattle.std.proofs.lemmas.Bool.{agree_below_at, eqb-true}
+use Rattle.record.proofs.Maps.{always, each, same}
 
 -- Whether a top is named.
 abbrev pub named : Top → Bool
-named Any = false
-named (Named x) = true
+named None = false
+named (Some x) = true
 
 -- Whether some mark stands.
 abbrev pub stand : List ℕ → Bool
@@ -32,8 +33,8 @@ second_by ta tb ha hb ca cb = cond ta 1 0 + cond tb 2 0 + cond ha 4 0 + cond hb 
 
 -- What a top adds, by whether it is named ..
 top_adds : (w : ℕ) (t : Top) → top_weight w t ≡ cond (named t) w 0
-top_adds w Any = refl
-top_adds w (Named x) = refl
+top_adds w None = refl
+top_adds w (Some x) = refl
 
 -- .. and what any other field does, by whether it is not absent.
 field_adds : (w : ℕ) (absent : Bool) → cond absent 0 w ≡ cond (not absent) w 0
@@ -101,42 +102,21 @@ second_bits_lem x =
 second_sum : ℕ → Bool
 second_sum map = eqb (second_by (bit 0 map) (bit 1 map) (bit 2 map) (bit 3 map) (bit 4 map) (bit 5 map)) map
 
-all_second_sums : T (up_to second_sum 64)
-unfolding second_sum
-all_second_sums = tt
-
 -- A second map is the sum of its bits.
 pub second_sum_lem : {map : ℕ} {x : Second} → SecondBits map x → second_map x ≡ map
 unfolding second_sum
 second_sum_lem {map} {x} b =
     let sum : ℕ = second_by (bit 0 map) (bit 1 map) (bit 2 map) (bit 3 map) (bit 4 map) (bit 5 map) in
-    let t = (equal sum map).0 (below second_sum 64 all_second_sums map b.low) in
+    let t = eqb-true sum map (agree_below_at second_sum (λ k. true) 64 map refl b.low) in
     second_by_lem x ∙ rw (b.bit0, b.bit1, b.bit2, b.bit3, b.bit4, b.bit5) at t
-
-low_map : ℕ → Bool
-low_map map = beq (bit 4 map) false && beq (bit 5 map) false
-
-all_low_maps : T (up_to low_map 16)
-unfolding low_map
-all_low_maps = tt
 
 -- A second map below 16 has no bit for a count.
 pub low_map_lem : (map : ℕ) → map < 16 → (bit 4 map ≡ false) × (bit 5 map ≡ false)
-unfolding low_map
-low_map_lem map h =
-    let z = (both (beq (bit 4 map) false) (beq (bit 5 map) false)).0 (below low_map 16 all_low_maps map h) in
-    ((same (bit 4 map) false).0 z.0, (same (bit 5 map) false).0 z.1)
-
-target_bits : ℕ → Bool
-target_bits b = beq (announces b) (bit 7 b) && eqb (state_of b) (b % 128)
-
-all_target_bits : T (up_to target_bits 256)
-unfolding target_bits
-all_target_bits = tt
+low_map_lem map h = (agree_below_at (bit 4) (λ k. false) 16 map refl h, agree_below_at (bit 5) (λ k. false) 16 map refl h)
 
 -- A target byte announces a second map by its bit 7, and its low seven bits are its state.
 pub target_bits_lem : (b : ℕ) → b < 256 → (announces b ≡ bit 7 b) × (state_of b ≡ b % 128)
-unfolding target_bits
-target_bits_lem b h =
-    let z = (both (beq (announces b) (bit 7 b)) (eqb (state_of b) (b % 128))).0 (below target_bits 256 all_target_bits b h) in
-    ((same (announces b) (bit 7 b)).0 z.0, (equal (state_of b) (b % 128)).0 z.1)
+target_bits_lem b h = (
+  agree_below_at (λ k. announces k) (bit 7) 256 b refl h,
+  eqb-true (state_of b) (b % 128) (agree_below_at (λ k. eqb (state_of k) (k % 128)) (λ k. true) 256 b refl h),
+)

@@ -9,8 +9,8 @@ use native.Mathlib.Omega.{arith}
 use lib.Dec.{T, leb, ltb, eqb}
 use lib.ListN.{length}
 use borrow.Author.Tests.{le-leb, lt-leb, lt-ltb}
-use Rattle.model.specs.declared.Top.{Top}
-use Rattle.model.specs.declared.Top.TheVariants.{Any, Named}
+use Rattle.model.specs.Tops.{Top}
+use Rattle.std.specs.Prelude.{None, Some}
 use Rattle.model.specs.Bits.{bit}
 use Rattle.model.specs.Fits.{TopFits}
 use Rattle.model.specs.Results.{accepted}
@@ -61,8 +61,8 @@ target_forth g bs e =
 -- A top that is written is read.
 top_back : (t : Top) → TopFits t → (rest : List ℕ) → parse_top (named t) (top_of t ++ rest) ≡ accepted (t, rest)
 unfolding parse_top
-top_back Any f rest = refl
-top_back (Named x) f rest = rw (ranged_back 3 rest zero-le f)
+top_back None f rest = refl
+top_back (Some x) f rest = rw (ranged_back 3 rest zero-le f)
 
 -- What reading a top tells.
 record TopRead (present : Bool) (t : Top) (bs rest : List ℕ) : Type 0 where

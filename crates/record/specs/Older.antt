@@ -4,7 +4,7 @@
 use Rattle.std.specs.Prelude.{Bool, List, [], ◌∷◌, ◌⊎◌, ◌≡◌, ℕ, zero, suc, ◌+◌, ◌<◌, get_or}
 use Rattle.model.specs.declared.Model.{Model}
 use Rattle.model.specs.declared.Rule.{Rule}
-use Rattle.model.specs.declared.Top.TheVariants.{Any}
+use Rattle.std.specs.Prelude.{None}
 use Rattle.model.specs.Bits.{bit, one_if}
 use Rattle.model.specs.Results.{accepted, unless}
 use Rattle.model.specs.Valid.{marks_fault}
@@ -58,7 +58,7 @@ Uncounted bs = (target_byte bs < 128) ⊎ (second_byte bs < 16)
 
 -- What no second map says of a thread: any top, no mark, and 16 symbols ..
 abbrev pub no_extra : Extra
-no_extra = record { top = Any; held = no_marks; symbols = 16 }
+no_extra = record { top = None; held = no_marks; symbols = 16 }
 
 -- .. and of both.
 abbrev pub no_second : Second

@@ -5,8 +5,8 @@ use Rattle.model.specs.declared.Right.{Right}
 use Rattle.model.specs.declared.Right.TheVariants.{Remove, Swap, Push}
 use Rattle.model.specs.declared.Rule.{Rule}
 use Rattle.model.specs.declared.Thread.{Thread}
-use Rattle.model.specs.declared.Top.{Top}
-use Rattle.model.specs.declared.Top.TheVariants.{Any, Named}
+use Rattle.model.specs.Tops.{Top}
+use Rattle.std.specs.Prelude.{None, Some}
 use Rattle.model.specs.Bits.{bit, all_zero}
 use Rattle.model.specs.Order.{key_of}
 use Rattle.model.specs.Results.{Result, refused, accepted, and_then, need, unless}
@@ -104,8 +104,8 @@ parse_target g bs = and_read (parse_byte bs) (λ b rest. need 3 (ltb (state_of b
 
 -- The top that a thread is asked for: a symbol (3) where its bit stands, else any.
 unfoldable pub parse_top : Bool → List ℕ → Read Top
-parse_top false bs = accepted (Any, bs)
-parse_top true bs = and_read (parse_ranged 3 0 16 bs) (λ x rest. accepted (Named (record { 0 = x }), rest))
+parse_top false bs = accepted (None, bs)
+parse_top true bs = and_read (parse_ranged 3 0 16 bs) (λ x rest. accepted (Some (record { 0 = x }), rest))
 
 -- The marks of a thread's held rules: where their bit stands eight bytes (1), not all of them zero (5), else none.
 unfoldable pub parse_marks : Bool → List ℕ → Read (List ℕ)

@@ -1,22 +1,16 @@
 -- What the call that writes a record answers, what the store then holds, and that it is read back.
-use Rattle.std.specs.Prelude.{List, [], ◌≡◌, ℕ, leb, length, take}
+use Rattle.std.specs.Prelude.{List, [], ◌≡◌, ℕ, leb, length, take, Ok, Err}
+use Rattle.std.specs.Prelude as std
 use Rattle.model.specs.declared.Model.{Model}
-use Rattle.model.specs.Results.{Result, refused, accepted, unless, store_by}
+use Rattle.model.specs.declared.refusal.Refusal.{Refusal}
+use Rattle.model.specs.Results.{Result, accepted, unless, store_by}
 use Rattle.model.specs.Valid.{store_refusal, Same}
-use Rattle.record.specs.declared.Written.{Written}
-use Rattle.record.specs.declared.Written.TheVariants.{Length, Refused}
 use Rattle.record.specs.Reader.{read_of}
 use Rattle.writer.specs.Writer.{record_of}
 
--- The answer, by what writing comes to: the record's length, or the refusal.
-abbrev pub written_by : Result ℕ → Written
-written_by (refused n) = Refused n
-written_by (accepted n) = Length n
-
 -- The answer, by the length of the store: the model's fault, 7 for a store shorter than the record, else the record's length.
-unfoldable pub written_of : Model → ℕ → Written
-written_of m size =
-    written_by (unless (store_refusal m (leb (length (record_of m)) size)) (accepted (length (record_of m))))
+unfoldable pub written_of : Model → ℕ → Result ℕ
+written_of m size = unless (store_refusal m (leb (length (record_of m)) size)) (accepted (length (record_of m)))
 
 -- What the store holds after the call: what it held where a refusal is due, else the record at its front.
 unfoldable pub store_of : Model → List ℕ → List ℕ
@@ -29,6 +23,6 @@ pub record ReadsBack (m : Model) (bytes : List ℕ) : Type 0 where
   pub same : Same m model
 
 -- Every valid model survives writing and reading: where a record was written, so many bytes of the store hold the model.
-abbrev pub Survives : Model → Written → List ℕ → Type 0
-Survives m (Length n) store = ReadsBack m (take n store)
-Survives m (Refused n) store = Unit {0}
+abbrev pub Survives : Model → std.Result ℕ Refusal → List ℕ → Type 0
+Survives m (Ok n) store = ReadsBack m (take n store)
+Survives m (Err r) store = Unit {0}

@@ -1,155 +1,99 @@
-// The readers of a record and of its head. Each reader answers with the place after its part, where the next part starts.
-ghost use Rattle.std.specs.Prelude.{◌≡◌, ◌≤◌, length, drop};
-ghost use Rattle.model.specs.Rules.{zero_rule};
-ghost use Rattle.model.specs.Zero.{Padded, zero_model};
-ghost use Rattle.record.specs.Held.{Reads, extra_of, fields_of, head_part_of, front_of, listed, reading_of};
-ghost use Rattle.record.specs.Reader.{parse_front, parse_head, parse_head_rest, thread_from, model_of};
+// The readers of a record and of its head.
+ghost use Rattle.std.specs.Prelude.{◌≡◌};
+ghost use Rattle.record.specs.Held.{Reads, extra_of, front_of, fields_of, answered_as};
+ghost use Rattle.record.specs.Reader.{parse_front, parse_head, thread_from, model_of};
 
-use crate::field::{byte_at, field};
-use crate::rules::read_rules;
-use crate::targets::{array_of, read_second, read_target, state_of};
-use crate::{Fields, Front, HeadPart, Part, RuleList, SecondPart, Taken, ThreadFields};
-use model::{Model, Shared, Symbol, Thread};
+use crate::Front;
+use crate::bytes::{Reader, bit};
+use crate::rules::{RuleList, read_rules};
+use crate::targets::{Extra, Second, announces, state_of};
+use model::{Model, Refusal, Shared, Symbol, Thread, need};
 
-// A record at the front of a slice, and how many bytes it took.
-pub fn front(bytes: &[u8]) -> Front
-    ensures read { Reads bytes.now (front_of result) (parse_front bytes.now) }
-    ensures model { result.model ≡ (reading_of (parse_front bytes.now)).model }
+// The head fields, with the map and what a second map says.
+#[derive(Clone, Copy)]
+struct Head {
+    map: u8,
+    g: u8,
+    k: u8,
+    start: u8,
+    target: u8,
+    second: Second,
+    a: u8,
+    b: u8,
+}
+
+// A record at the front of a slice. What the head leaves, from the first rule count onward, is passed to the reader of rule lists.
+#[tactic(auto, using(crate::proofs::Fronts::head_shorter, crate::proofs::Fronts::rules_shorter, crate::proofs::Fronts::sized), unfolding(crate::specs::Reader::parse_front))]
+pub fn front(bytes: &[u8]) -> Result<Front, Refusal>
+    ensures { Reads bytes.now (front_of result) (parse_front bytes.now) }
 {
-    let h = match read_head(bytes) {
-        HeadPart::Read(x) => x,
-        HeadPart::Refused(n) => return refusal(n),
-    };
-    let at = h.at;
-    let list_a = read_rules(&bytes[at..], h.map / 64 % 2 == 1, h.g);
-    let answer_a = list_a.answer;
-    let taken_a = match answer_a {
-        Taken::At(x) => x,
-        Taken::Refused(n) => return refusal(n),
-    };
-    let from = at + taken_a;
-    let list_b = read_rules(&bytes[from..], h.map / 128 % 2 == 1, h.g);
-    let answer_b = list_b.answer;
-    let taken_b = match answer_b {
-        Taken::At(x) => x,
-        Taken::Refused(n) => return refusal(n),
-    };
-    let model = model_of(h, list_a, list_b);
-    let fault = model::cross_fault(model);
-    if fault != 0 {
-        return refusal(fault);
-    }
-    Front {
-        answer: Taken::At(from + taken_b),
+    let mut reader = Reader { rest: bytes };
+    let head = reader.head()?;
+    let (rules_a, rest_a) = read_rules(reader.rest, bit(head.map, 6), head.g)?;
+    let (rules_b, rest) = read_rules(rest_a, bit(head.map, 7), head.g)?;
+    let model = model_of(head, rules_a, rules_b);
+    model::check_across(model)?;
+    Ok(Front {
         model,
+        size: bytes.len() - rest.len(),
+    })
+}
+
+impl Reader<'_> {
+    // The head: the map, and the fields that it names, in bit order.
+    #[tactic(auto, unfolding(crate::specs::Reader::parse_head))]
+    fn head(&mut self) -> Result<Head, Refusal>
+        ensures { answered_as fields_of result self.new ≡ parse_head self.old }
+    {
+        let map = self.byte()?;
+        need(bit(map, 3), Refusal::NoTarget)?;
+        let g = self.field(bit(map, 0), Refusal::Head, 1..5, 4)?;
+        let k = self.field(bit(map, 1), Refusal::Head, 1..4, 2)?;
+        let start = self.field(bit(map, 2), Refusal::Head, 0..g, 0)?;
+        let target = self.target(g)?;
+        let second = self.second(announces(target))?;
+        let a = self.field(bit(map, 4), Refusal::Head, 0..16, 0)?;
+        let b = self.field(bit(map, 5), Refusal::Head, 0..16, 0)?;
+        Ok(Head {
+            map,
+            g,
+            k,
+            start,
+            target: state_of(target),
+            second,
+            a,
+            b,
+        })
     }
 }
 
 // The model of a head and the rules of both threads.
-fn model_of(h: Fields, a: RuleList, b: RuleList) -> Model
-    requires { Padded zero_rule a.count a.rules × Padded zero_rule b.count b.rules }
-    ensures { result ≡ model_of (fields_of h) (listed a) (listed b) }
+fn model_of(h: Head, a: RuleList, b: RuleList) -> Model
+    ensures { result ≡ model_of (fields_of h) a b }
 {
-    let second = h.second;
-    let extra_a = second.a;
-    let extra_b = second.b;
     Model {
         g: h.g,
         k: h.k,
         start: Shared(h.start),
         target: Shared(h.target),
-        a: thread(h.a, extra_a, a),
-        b: thread(h.b, extra_b, b),
-    }
-}
-
-// The zero model, beside a refusal.
-fn refusal(n: u8) -> Front
-    ensures { result ≡ record { answer = Taken.Refused n; model = zero_model } }
-{
-    Front {
-        answer: Taken::Refused(n),
-        model: model::zero_model(),
+        a: thread(h.a, h.second.a, a),
+        b: thread(h.b, h.second.b, b),
     }
 }
 
 // A thread with the rules that were read.
-fn thread(first: u8, x: ThreadFields, l: RuleList) -> Thread
-    requires { Padded zero_rule l.count l.rules }
-    ensures { result ≡ thread_from first (extra_of x) (listed l) }
+fn thread(first: u8, x: Extra, l: RuleList) -> Thread
+    ensures { result ≡ thread_from first (extra_of x) l }
 {
-    let top = x.top;
-    let marks = x.marks;
-    let held = array_of(marks);
+    // read out first: with both in place below, the proof did not close
+    let held = x.held;
     let rules = l.rules;
     Thread {
         symbols: x.symbols,
         first: Symbol(first),
-        top,
+        top: x.top,
         held,
         count: l.count,
         rules,
     }
-}
-
-// The head: the map, and the fields that it names, in bit order.
-fn read_head(s: &[u8]) -> HeadPart
-    ensures { Reads s.now (head_part_of result) (parse_head s.now) }
-{
-    let first = match byte_at(s, 0) {
-        Part::Read(x) => x,
-        Part::Refused(n) => return HeadPart::Refused(n),
-    };
-    let map = first.byte;
-    if map / 8 % 2 != 1 {
-        return HeadPart::Refused(2);
-    }
-    let g = match field(s, first.at, map % 2 == 1, 3, 1, 5, 4) {
-        Part::Read(x) => x,
-        Part::Refused(n) => return HeadPart::Refused(n),
-    };
-    let k = match field(s, g.at, map / 2 % 2 == 1, 3, 1, 4, 2) {
-        Part::Read(x) => x,
-        Part::Refused(n) => return HeadPart::Refused(n),
-    };
-    read_head_rest(s, k.at, map, g.byte, k.byte)
-}
-
-// The head after G and K: the two states, what a second map says, and the first symbols.
-fn read_head_rest(s: &[u8], at: usize, map: u8, g: u8, k: u8) -> HeadPart
-    requires { at ≤ length s.now }
-    ensures { Reads s.now (head_part_of result) (parse_head_rest map g k (drop at s.now)) }
-{
-    let start = match field(s, at, map / 4 % 2 == 1, 3, 0, g, 0) {
-        Part::Read(x) => x,
-        Part::Refused(n) => return HeadPart::Refused(n),
-    };
-    let target = match read_target(s, start.at, g) {
-        Part::Read(x) => x,
-        Part::Refused(n) => return HeadPart::Refused(n),
-    };
-    let named = match read_second(s, target.at, 128 <= target.byte) {
-        SecondPart::Read(x) => x,
-        SecondPart::Refused(n) => return HeadPart::Refused(n),
-    };
-    let a = match field(s, named.at, map / 16 % 2 == 1, 3, 0, 16, 0) {
-        Part::Read(x) => x,
-        Part::Refused(n) => return HeadPart::Refused(n),
-    };
-    let b = match field(s, a.at, map / 32 % 2 == 1, 3, 0, 16, 0) {
-        Part::Read(x) => x,
-        Part::Refused(n) => return HeadPart::Refused(n),
-    };
-    let second = named.second;
-    HeadPart::Read(Fields {
-        map,
-        g,
-        k,
-        start: start.byte,
-        target: state_of(target.byte),
-        second,
-        a: a.byte,
-        b: b.byte,
-        at: b.at,
-    })
 }

@@ -1,139 +1,91 @@
 // The readers of rules: a thread's list, one rule, its new symbols.
-ghost use Rattle.std.specs.Prelude.{◌≡◌, ◌≤◌, length, drop};
+ghost use Rattle.std.specs.Prelude.{◌≡◌, List, take};
+ghost use Rattle.model.specs.declared.Rule.{Rule};
 ghost use Rattle.model.specs.Rules.{zero_rule};
 ghost use Rattle.model.specs.Zero.{Padded};
-ghost use Rattle.record.specs.Held.{Reads, right_part_of, rule_part_of, list_of};
+ghost use Rattle.record.specs.Held.{answered, leaves};
 ghost use Rattle.record.specs.Reader.{parse_right, parse_rule, rule_map, parse_rules};
 
-use crate::field::{byte_at, field, ranged};
-use crate::{Part, RightAt, RightPart, RuleAt, RuleList, RulePart, Taken};
-use model::{Right, Rule, Shared, Symbol, ZERO_RULE};
+use crate::bytes::{Reader, bit};
+use model::{Refusal, Right, Rule, Shared, Symbol, ZERO_RULE, need};
+use std::marker::Model;
 
-// The rules of a thread, from the place of their count; no byte is taken where they are absent. The least key that the next rule may
-// have is one above the last.
-pub fn read_rules(s: &[u8], present: bool, g: u8) -> RuleList
-    ensures read { Reads s.now (list_of result) (parse_rules present g s.now) }
-    ensures padded { Padded zero_rule result.count result.rules }
+// The rules of a thread: the first `count`; the places after them are zero. There is no heap, so the count stands beside 64 places.
+#[derive(Drop)]
+pub struct RuleList {
+    pub count: usize,
+    pub rules: [Rule; 64],
+}
+
+impl Model for RuleList {
+    ghost Value = { List Rule };
+
+    ghost view = { λ l. take l.count l.rules };
+
+    ghost invariant = { λ l. Padded zero_rule l.count l.rules };
+}
+
+// The rules of a thread, from the place of their count, and what follows them; no byte is taken where they are absent. The least key that
+// the next rule may have is one above the last. The record's part is passed, as document 01 says ("Form by location").
+#[tactic(auto, using(crate::proofs::Lists::uncounted, crate::proofs::Lists::breaks, crate::proofs::Lists::stops))]
+pub fn read_rules(part: &[u8], present: bool, g: u8) -> Result<(RuleList, &[u8]), Refusal>
+    ensures { leaves result ≡ parse_rules present g part.now }
 {
+    let mut reader = Reader { rest: part };
+    let n = reader.field(present, Refusal::Rule, 0..65, 0)? as usize;
     let mut rules = [ZERO_RULE; 64];
-    let mut i = 0;
-    let counted = match field(s, 0, present, 4, 0, 65, 0) {
-        Part::Read(x) => x,
-        Part::Refused(m) => return refusal(m, i, rules),
-    };
-    let n = counted.byte as usize;
-    let mut at = counted.at;
     let mut least = 0u64;
-    while i < n {
-        let next = match read_rule(s, at, g) {
-            RulePart::Read(x) => x,
-            RulePart::Refused(m) => return refusal(m, i, rules),
-        };
-        let rule = next.rule;
+    for i in 0..n {
+        let rule = reader.rule(g)?;
         let place = model::key(rule) as u64;
-        if place < least {
-            return refusal(13, i, rules);
-        }
+        need(least <= place, Refusal::Order)?;
         rules[i] = rule;
         least = place + 1;
-        at = next.at;
-        i += 1;
     }
-    RuleList {
-        answer: Taken::At(at),
-        count: i,
-        rules,
-    }
+    Ok((RuleList { count: n, rules }, reader.rest))
 }
 
-// The rules read so far, beside a refusal.
-fn refusal(m: u8, count: usize, rules: [Rule; 64]) -> RuleList
-    ensures { result ≡ record { answer = Taken.Refused m; count = count; rules = rules } }
-{
-    RuleList {
-        answer: Taken::Refused(m),
-        count,
-        rules,
+impl Reader<'_> {
+    // A rule. Its after state is absent where it is the before state.
+    #[tactic(auto, unfolding(crate::specs::Reader::parse_rule))]
+    fn rule(&mut self, g: u8) -> Result<Rule, Refusal>
+        ensures { answered result self.new ≡ parse_rule g self.old }
+    {
+        let map = self.byte()?;
+        need(map_fits(map), Refusal::Rule)?;
+        let pair = self.byte()?;
+        let before = pair / 16;
+        need(before < g, Refusal::Rule)?;
+        let after = self.field(bit(map, 0), Refusal::Rule, 0..g, before)?;
+        let right = self.right(bit(map, 1), bit(map, 2))?;
+        Ok(Rule {
+            before: Shared(before),
+            symbol: Symbol(pair % 16),
+            after: Shared(after),
+            right,
+        })
     }
-}
 
-// A rule. Its after state is absent where it is the before state.
-fn read_rule(s: &[u8], at: usize, g: u8) -> RulePart
-    ensures { Reads s.now (rule_part_of result) (parse_rule g (drop at s.now)) }
-{
-    let map = match byte_at(s, at) {
-        Part::Read(x) => x,
-        Part::Refused(n) => return RulePart::Refused(n),
-    };
-    if !map_fits(map.byte) {
-        return RulePart::Refused(4);
+    // The new symbols of a rule: none, one or two.
+    #[tactic(auto, unfolding(crate::specs::Reader::parse_right))]
+    fn right(&mut self, first: bool, second: bool) -> Result<Right, Refusal>
+        ensures { answered result self.new ≡ parse_right first second self.old }
+    {
+        if !first {
+            return Ok(Right::Remove);
+        }
+        let a = self.ranged(Refusal::Rule, 0..16)?;
+        if !second {
+            return Ok(Right::Swap(Symbol(a)));
+        }
+        let b = self.ranged(Refusal::Rule, 0..16)?;
+        Ok(Right::Push(Symbol(a), Symbol(b)))
     }
-    let pair = match byte_at(s, map.at) {
-        Part::Read(x) => x,
-        Part::Refused(n) => return RulePart::Refused(n),
-    };
-    let before = pair.byte / 16;
-    if g <= before {
-        return RulePart::Refused(4);
-    }
-    let after = match field(s, pair.at, map.byte % 2 == 1, 4, 0, g, before) {
-        Part::Read(x) => x,
-        Part::Refused(n) => return RulePart::Refused(n),
-    };
-    let new = match read_right(s, after.at, map.byte / 2 % 2 == 1, map.byte / 4 % 2 == 1) {
-        RightPart::Read(x) => x,
-        RightPart::Refused(n) => return RulePart::Refused(n),
-    };
-    let right = new.right;
-    let rule = Rule {
-        before: Shared(before),
-        symbol: Symbol(pair.byte % 16),
-        after: Shared(after.byte),
-        right,
-    };
-    RulePart::Read(RuleAt { rule, at: new.at })
 }
 
 // A rule's map has bits 0 to 2 alone, and bit 2 only beside bit 1.
 fn map_fits(map: u8) -> bool
     ensures { result ≡ rule_map map }
 {
-    if 7 < map {
-        return false;
-    }
-    if map / 2 % 2 == 1 {
-        return true;
-    }
-    map / 4 % 2 != 1
-}
-
-// The new symbols of a rule: none, one or two.
-fn read_right(s: &[u8], at: usize, first: bool, second: bool) -> RightPart
-    requires { at ≤ length s.now }
-    ensures { Reads s.now (right_part_of result) (parse_right first second (drop at s.now)) }
-{
-    if !first {
-        return RightPart::Read(RightAt {
-            right: Right::Remove,
-            at,
-        });
-    }
-    let a = match ranged(s, at, 4, 0, 16) {
-        Part::Read(x) => x,
-        Part::Refused(n) => return RightPart::Refused(n),
-    };
-    if !second {
-        return RightPart::Read(RightAt {
-            right: Right::Swap(Symbol(a.byte)),
-            at: a.at,
-        });
-    }
-    let b = match ranged(s, a.at, 4, 0, 16) {
-        Part::Read(x) => x,
-        Part::Refused(n) => return RightPart::Refused(n),
-    };
-    RightPart::Read(RightAt {
-        right: Right::Push(Symbol(a.byte), Symbol(b.byte)),
-        at: b.at,
-    })
+    map < 8 && (bit(map, 1) || !bit(map, 2))
 }

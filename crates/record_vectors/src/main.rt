@@ -1,139 +1,80 @@
 // Runs document 01's records and a file of random ones through the reader and the writer, and compares.
 #![tactic(auto)]
 
-use model::Model;
-use record::{Answer, Written};
+use model::{Model, Refusal};
 use std::io;
-use std::rt::Files;
-use vectors::Tally;
+use vectors::{Cases, Tally};
 
-// The number of a record's answer: 0 where it is accepted.
-fn number(bytes: &[u8]) -> u8 {
-    let reading = record::read(bytes);
-    let answer = reading.answer;
-    match answer {
-        Answer::Accepted => 0,
-        Answer::Refused(n) => n,
-    }
-}
-
-// A write that gave just this length.
-fn wrote(answer: Written, length: usize) -> bool {
-    match answer {
-        Written::Length(n) => n == length,
-        Written::Refused(_) => false,
-    }
-}
-
-// A write that was refused for a short store.
-fn too_short(answer: Written) -> bool {
-    match answer {
-        Written::Length(_) => false,
-        Written::Refused(n) => n == 7,
-    }
-}
+// What every byte of a store holds before a call.
+const KEPT: u8 = 170;
 
 // A model whose record is known: it is written byte for byte, the bytes past it are kept, it is read again, and a store one
-// byte short is refused and left as it was. The store is filled with 170 beforehand.
+// byte short is refused and left as it was.
 fn rewritten(m: Model, bytes: &[u8], store: &mut [u8]) -> bool {
     let n = bytes.len();
-    if n == 0 {
+    if n == 0 || store.len() <= n {
         return false;
     }
-    if store.len() <= n {
-        return false;
-    }
-    let short = n - 1;
-    if !too_short(record::write(m, &mut store[0..short])) {
-        return false;
-    }
-    if !vectors::filled(store, 170) {
-        return false;
-    }
-    if !wrote(record::write(m, store), n) {
-        return false;
-    }
-    if !vectors::filled(&store[n..], 170) {
-        return false;
-    }
-    if !check::same(&store[0..n], bytes) {
-        return false;
-    }
-    number(&store[0..n]) == 0
+    record::write(m, &mut store[..n - 1]) == Err(Refusal::Store)
+        && vectors::filled(store, KEPT)
+        && record::write(m, store) == Ok(n)
+        && vectors::holds(store, bytes, KEPT)
+        && record::read(&store[..n]).is_ok()
 }
 
 // A record gets this answer, and where that is 0 it survives.
 fn agrees(bytes: &[u8], answer: u8) -> bool {
-    if number(bytes) != answer {
+    let reading = record::read(bytes);
+    if vectors::number(reading) != answer {
         return false;
     }
-    if answer != 0 {
-        return true;
+    match reading {
+        Ok(m) => rewritten(m, bytes, &mut [KEPT; 700]),
+        Err(_) => true,
     }
-    let reading = record::read(bytes);
-    let m = reading.model;
-    let mut store = [170u8; 700];
-    rewritten(m, bytes, &mut store)
 }
 
 // The records of document 01: model One and Two, those of rows 1 to 6, the empty one.
 fn document() -> Tally {
-    let mut t = Tally::new();
-    let one = vectors::ONE;
-    t = t.counted(agrees(&one, 0));
-    let two = vectors::TWO;
-    t = t.counted(agrees(&two, 0));
-    t = t.counted(agrees(b"\x08\x00", 0));
-    t = t.counted(agrees(&[], 1));
-    t = t.counted(agrees(b"\x4B\x02", 1));
-    t = t.counted(agrees(b"\x00", 2));
-    t = t.counted(agrees(b"\x09\x05\x00", 3));
-    t = t.counted(agrees(b"\x48\x00\x01\x08\x00", 4));
-    t = t.counted(agrees(b"\x09\x04\x00", 5));
-    t = t.counted(agrees(b"\x08\x00\x00", 6));
-    t = t.counted(agrees(b"\x48\x00\x01\x08", 4));
-    t.counted(agrees(b"\x09\x04", 5))
+    Tally::of(&[
+        agrees(&vectors::ONE, 0),
+        agrees(&vectors::TWO, 0),
+        agrees(b"\x08\x00", 0),
+        agrees(&[], 1),
+        agrees(b"\x4B\x02", 1),
+        agrees(b"\x00", 2),
+        agrees(b"\x09\x05\x00", 3),
+        agrees(b"\x48\x00\x01\x08\x00", 4),
+        agrees(b"\x09\x04\x00", 5),
+        agrees(b"\x08\x00\x00", 6),
+        agrees(b"\x48\x00\x01\x08", 4),
+        agrees(b"\x09\x04", 5),
+    ])
 }
 
 // What document 02 says of second maps: tops named for A, for B and for both, and each refusal in its order.
 fn second_maps() -> Tally {
-    let mut t = Tally::new();
-    t = t.counted(agrees(b"\x08\x80\x01\x05", 0));
-    t = t.counted(agrees(b"\x08\x83\x02\x00", 0));
-    t = t.counted(agrees(b"\x38\x81\x03\x05\x0F\x01\x02", 0));
-    t = t.counted(agrees(b"\x08\x80", 1));
-    t = t.counted(agrees(b"\x08\x80\x00", 5));
-    t = t.counted(agrees(b"\x08\x80\x40", 3));
-    t = t.counted(agrees(b"\x08\x80\x81\x05", 3));
-    t = t.counted(agrees(b"\x08\x84\x00", 3));
-    t = t.counted(agrees(b"\x08\x80\x01", 1));
-    t = t.counted(agrees(b"\x08\x80\x01\x10", 3));
-    t = t.counted(agrees(b"\x08\x80\x03\x05", 1));
-    t = t.counted(agrees(b"\x08\x80\x03\x05\x10", 3));
-    t.counted(agrees(b"\x08\x80\x01\x05\x00", 6))
+    Tally::of(&[
+        agrees(b"\x08\x80\x01\x05", 0),
+        agrees(b"\x08\x83\x02\x00", 0),
+        agrees(b"\x38\x81\x03\x05\x0F\x01\x02", 0),
+        agrees(b"\x08\x80", 1),
+        agrees(b"\x08\x80\x00", 5),
+        agrees(b"\x08\x80\x40", 3),
+        agrees(b"\x08\x80\x81\x05", 3),
+        agrees(b"\x08\x84\x00", 3),
+        agrees(b"\x08\x80\x01", 1),
+        agrees(b"\x08\x80\x01\x10", 3),
+        agrees(b"\x08\x80\x03\x05", 1),
+        agrees(b"\x08\x80\x03\x05\x10", 3),
+        agrees(b"\x08\x80\x01\x05\x00", 6),
+    ])
 }
 
-// One case of the file after another: a record with its length, and its answer.
-fn corpus(s: &[u8]) -> Tally {
-    let mut t = Tally::new();
-    let mut at = 0;
-    while at < s.len() {
-        let part = vectors::part_at(s, at);
-        let start = part.start;
-        let end = part.end;
-        t = t.counted(agrees(&s[start..end], vectors::byte_at(s, end)));
-        if end < at {
-            return t;
-        }
-        at = end + 1;
-    }
-    t
-}
-
-// The cases of a file, which the store has room for.
-fn file(rt: &(impl Files + Print + Eprint), name: &[u8], store: &mut [u8]) -> io::Result<()> {
-    let n = vectors::load(rt, name, store);
-    corpus(&store[0..n]).report(rt, name)
+// A case of a file: a record with its length, and its answer.
+fn case(cases: &mut Cases) -> bool {
+    let bytes = cases.part();
+    agrees(bytes, cases.byte())
 }
 
 // counts.bin has lists of 0, 64 and 65 rules. held.bin has what document 02 says of held rules: marks for A, for B and for both, and each
@@ -141,13 +82,18 @@ fn file(rt: &(impl Files + Print + Eprint), name: &[u8], store: &mut [u8]) -> io
 // about symbol counts. longest.bin has the longest record, of 670 bytes, and the same with a byte less, with one more, and with its last
 // symbol at the count.
 fn main(rt: HostRuntime) -> io::Result<()> {
-    document().report(&rt, b"document 01")?;
-    second_maps().report(&rt, b"second maps")?;
+    document().report(&rt, "document 01")?;
+    second_maps().report(&rt, "second maps")?;
     let mut store = [0u8; 100000];
-    file(&rt, b"counts.bin", &mut store)?;
-    file(&rt, b"held.bin", &mut store)?;
-    file(&rt, b"order.bin", &mut store)?;
-    file(&rt, b"symbols.bin", &mut store)?;
-    file(&rt, b"longest.bin", &mut store)?;
-    file(&rt, b"records.bin", &mut store)
+    for name in [
+        "counts.bin",
+        "held.bin",
+        "order.bin",
+        "symbols.bin",
+        "longest.bin",
+        "records.bin",
+    ] {
+        vectors::file(&rt, name, &mut store, case)?;
+    }
+    Ok(())
 }

@@ -17,10 +17,10 @@ use Rattle.model.specs.Schedules.{bytes_of, steps_of}
 use Rattle.model.specs.Valid.{fault_of}
 use Rattle.model.specs.Walk.{Step, Config, Walked, start_of, step_from, walk, at_target}
 use Rattle.model.proofs.Checks.{both_pass}
-use Rattle.model.proofs.Results.{accepted_same, checked, through, undue}
+use Rattle.model.proofs.Results.{accepted_same, apart, checked, through, undue}
 use Rattle.model.proofs.Stores.{length_bytes, steps_bytes, bytes_steps}
 use Rattle.model.proofs.Tests.{tests, passed, negated}
-use Rattle.replay.specs.declared.Replayed.TheVariants.{Accepted, Refused}
+use Rattle.replay.specs.declared.Replayed.{Replayed}
 use Rattle.replay.specs.Replay.{size_fits, size_refusal, replayed_by, replay_of, Legally}
 
 -- The bytes of at most 4,095 steps fit in size.
@@ -28,21 +28,13 @@ fits : (ss : List Step) → length ss ≤ 4095 → T (size_fits (bytes_of ss))
 unfolding size_fits
 fits ss h = simp tests (rw length_bytes (omega arith), rw length_bytes (omega arith))
 
--- A refusal accepts nothing.
-apart : {X : Type 0} {n : ℕ} {g : Shared} {reached : Bool} {depths : Depths} → Refused n ≡ Accepted g reached depths → X
-apart {X} {n} {g} {reached} {depths} e = let z : ◌≡◌ {A = ℕ} 0 1 = cc in absurd (omega arith)
-
 -- What is accepted was walked to its last state.
-walked : (m : Model) (ss : List Step) (w : Walked) {g : Shared} {reached : Bool} {depths : Depths}
-    → replayed_by m ss w ≡ Accepted g reached depths
-    → (c : Config) × (w ≡ accepted c) × (c.shared ≡ g.0) × (reached ≡ at_target m g.0 c.stacks) × (depths ≡ depths_of m ss)
+walked : (m : Model) (ss : List Step) (w : Walked) {r : Replayed} → replayed_by m ss w ≡ accepted r
+    → (c : Config) × (w ≡ accepted c) × (c.shared ≡ r.shared.0) × (r.reached ≡ at_target m r.shared.0 c.stacks) × (r.depths ≡ depths_of m ss)
 walked m ss (refused n) e = apart e
-walked m ss (accepted c) {g} {reached} {depths} e =
-    let shared : record { 0 = c.shared } ≡ g = cc in
-    let same : c.shared ≡ g.0 = ap (λ (s : Shared). s.0) shared in
-    let test : reached ≡ at_target m c.shared c.stacks = cc in
-    let deep : depths ≡ depths_of m ss = cc in
-    (c, refl, same, rw (← same) test, deep)
+walked m ss (accepted c) {r} e =
+    let same : record { shared = record { 0 = c.shared }; reached = at_target m c.shared c.stacks; depths = depths_of m ss } ≡ r = accepted_same e in
+    (c, refl, rw (← same) refl, rw (← same) refl, rw (← same) refl)
 
 -- A walk that is not refused does not end after a held step.
 pub free : (m : Model) (ss : List Step) (c : Config) {d : Config} → walk m c ss ≡ accepted d → d.held ≡ false
@@ -57,11 +49,11 @@ free m (s ∷ ss) c e =
 
 -- Replay accepts exactly the legal schedules, with the last state of their runs and their depths.
 pub accepts : (m : Model) (bs : List ℕ) (g : Shared) (reached : Bool) (depths : Depths)
-    → (replay_of m bs ≡ Accepted g reached depths) ↔ Legally m bs g.0 reached depths
+    → (replay_of m bs ≡ accepted (record { shared = g; reached = reached; depths = depths })) ↔ Legally m bs g.0 reached depths
 unfolding replay_of size_fits first_of
 accepts m bs g reached depths = (to, from)
   where
-    to : replay_of m bs ≡ Accepted g reached depths → Legally m bs g.0 reached depths
+    to : replay_of m bs ≡ accepted (record { shared = g; reached = reached; depths = depths }) → Legally m bs g.0 reached depths
     to e =
         let w = walked m (steps_of bs) (unless (size_refusal m bs) (walk m (start_of m) (steps_of bs))) e in
         let u = undue (size_refusal m bs) w.1 in
@@ -79,7 +71,7 @@ accepts m bs g reached depths = (to, from)
           deep = w.4;
         }
 
-    from : Legally m bs g.0 reached depths → replay_of m bs ≡ Accepted g reached depths
+    from : Legally m bs g.0 reached depths → replay_of m bs ≡ accepted (record { shared = g; reached = reached; depths = depths })
     from l =
         rw (
           l.valid,

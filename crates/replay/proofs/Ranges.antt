@@ -9,7 +9,7 @@ use lib.Dec.{T}
 use lib.ListN.{length}
 use Rattle.model.specs.declared.Model.{Model}
 use Rattle.model.specs.Fits.{Fits}
-use Rattle.model.specs.Results.{refused, accepted, need, and_then, unless, refuse, first_of}
+use Rattle.model.specs.Results.{Result, refused, accepted, need, and_then, unless, refuse, first_of}
 use Rattle.model.specs.Rules.{applies}
 use Rattle.model.specs.declared.ThreadId.TheVariants.{A, B}
 use Rattle.model.specs.Schedules.{steps_of, most_steps}
@@ -21,7 +21,6 @@ use Rattle.model.proofs.Ranges.{valid_fits}
 use Rattle.model.proofs.Stores.{length_steps}
 use Rattle.model.proofs.Tests.{tests}
 use Rattle.replay.specs.declared.Replayed.{Replayed}
-use Rattle.replay.specs.declared.Replayed.TheVariants.{Accepted, Refused}
 use Rattle.replay.specs.Replay.{size_fits, size_refusal, replayed_by, replay_of}
 use Rattle.depths.proofs.Climbing.{legal, depth_most}
 
@@ -66,9 +65,9 @@ walks {m} f (s ∷ ss) c h =
     (tested 12 m.g 9 (turn_fits m c s) _ (omega arith) (omega arith) (made_ends f 12 (omega arith) c s)) (λ d k. walks f ss d k)
 
 -- What replay answers of a valid model: a refusal from 1 to 12, or a state below g and depths of at most 4,096.
-abbrev pub Ends : ℕ → Replayed → Type 0
-Ends g (Refused n) = (1 ≤ n) × (n ≤ 12)
-Ends g (Accepted q reached depths) = (q.0 < g) × (depths.a ≤ 4096) × (depths.b ≤ 4096)
+abbrev pub Ends : ℕ → Result Replayed → Type 0
+Ends g (refused n) = (1 ≤ n) × (n ≤ 12)
+Ends g (accepted r) = (r.shared.0 < g) × (r.depths.a ≤ 4096) × (r.depths.b ≤ 4096)
 
 -- A schedule whose size fits has at most 4,095 steps.
 few_steps : (bytes : List ℕ) → T (size_fits bytes) → length (steps_of bytes) ≤ most_steps
@@ -90,7 +89,7 @@ replay_ends m bytes v =
         (h, omega (arith, depth_most A known, few tt), omega (arith, depth_most B known, few tt))
 
 -- Whatever the model, a refusal has a number.
-pub refused_by : (m : Model) (bytes : List ℕ) {n : ℕ} → replay_of m bytes ≡ Refused n → n ≡ 0 → ⊥
+pub refused_by : (m : Model) (bytes : List ℕ) {n : ℕ} → replay_of m bytes ≡ refused n → n ≡ 0 → ⊥
 unfolding replay_of
 refused_by m bytes {n} e z = go (size_refusal m bytes) refl
   where

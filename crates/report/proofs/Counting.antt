@@ -2,28 +2,23 @@
 -- the next length begin at `powers g n`.
 use mathlib.Core.Bool.{Bool}
 use mathlib.Core.List.{List, ◌++◌}
-use mathlib.Core.Path.{◌≡◌, refl, ◌∙◌}
-use Prim.Native.Nat.{ℕ, zero, suc, ◌+◌, ◌*◌, ◌/◌, ◌%◌, ◌^◌, ◌≤◌, ◌<◌}
-use native.Mathlib.Nat.{pow-succ', mul_comm, div-div-eq-div-mul}
+use mathlib.Core.Path.{◌≡◌, refl}
+use Prim.Native.Nat.{ℕ, zero, suc, ◌+◌, ◌*◌, ◌%◌, ◌^◌, ◌≤◌, ◌<◌}
 use native.Mathlib.Numerals.{add-one}
 use native.Mathlib.Omega.{arith}
 use lib.Dec.{eqb}
 use lib.ListN.{length}
-use lib.Seq.{length-sets}
 use Rattle.model.specs.Bits.{one_if, bit_at}
 use Rattle.model.specs.Lines.{powers, position, digits}
 use Rattle.model.proofs.Positions.{digits_position}
 use Rattle.judge.proofs.Roomy.{powers_low}
-use Rattle.writer.specs.Put.{Put}
-use Rattle.writer.proofs.Puts.{nothing, ◌then◌}
+use Rattle.writer.specs.declared.output.Output.{Output}
+use Rattle.writer.specs.Output.{Appends, HasRoom}
+use Rattle.writer.proofs.Outputs.{nothing, ◌then◌}
 use Rattle.costs.specs.Lanes.{full_lines}
 use Rattle.report.specs.Table.{standing, Fills}
 use Rattle.report.specs.Text.{count_of, pair_line, count_lines}
 use Rattle.report.proofs.Sizes.{count_short}
-
--- A byte halved once more loses one bit more.
-pub halved : (byte j : ℕ) {rest : ℕ} → rest ≡ byte / 2 ^ j → rest / 2 ≡ byte / 2 ^ (j + 1)
-halved byte j e = rw (add-one, pow-succ', mul_comm 2 (2 ^ j), ← div-div-eq-div-mul, e)
 
 -- The lowest bit is 1 or 0.
 pub lowest : (x : ℕ) → x % 2 ≡ one_if (eqb (x % 2) 1)
@@ -61,22 +56,20 @@ next_line g n table e f h =
     rw (h, f, e, add-one, same)
 
 -- The lines of the first n lengths stand.
-pub record Tabled (g longest : ℕ) (table s₀ s : List ℕ) (at next from n : ℕ) : Type 0 where
+pub record Tabled (g longest : ℕ) (table : List ℕ) (o p : Output) (from n : ℕ) : Type 0 where
   pub place : n ≤ longest
   pub fills : Fills g longest table
-  pub room : at + 7 * longest ≤ length s₀
-  pub put : Put s₀ s at next (count_lines g (standing g table) n)
+  pub room : o.at + 7 * longest ≤ length o.store.now
+  pub put : Appends o p (count_lines g (standing g table) n)
   pub begins : from ≡ powers g n
-  pub size : length s ≡ length s₀
-  pub low : next ≤ at + 7 * n
+  pub low : p.at ≤ o.at + 7 * n
 
-pub tabled_start : {g longest : ℕ} {table s : List ℕ} {at : ℕ} → Fills g longest table → at + 7 * longest ≤ length s
-    → Tabled g longest table s s at at 0 0
+pub tabled_start : {g longest : ℕ} {table : List ℕ} {o : Output} → Fills g longest table → o.at + 7 * longest ≤ length o.store.now
+    → Tabled g longest table o o 0 0
 unfolding count_lines powers
-tabled_start f h =
-    record { place = omega arith; fills = f; room = h; put = nothing _ _; begins = refl; size = refl; low = omega arith }
+tabled_start f h = record { place = omega arith; fills = f; room = h; put = nothing _; begins = refl; low = omega arith }
 
-module _ {g longest : ℕ} {table s₀ s : List ℕ} {at next from n : ℕ} (d : Tabled g longest table s₀ s at next from n) where
+module _ {g longest : ℕ} {table : List ℕ} {o p : Output} {from n : ℕ} (d : Tabled g longest table o p from n) where
   -- The bits of the next length are in the table ..
   pub tabled_bits : n < longest → {w : ℕ} → w ≡ g ^ (n + 1) → (from + w ≤ 5460) × (5460 ≤ 8 * length table)
   unfolding powers
@@ -85,27 +78,25 @@ module _ {g longest : ℕ} {table s₀ s : List ℕ} {at next from n : ℕ} (d :
       (omega (arith, rw add-one at e, d.begins), d.fills.bits)
 
   -- .. there is room for its line ..
-  pub tabled_room : n < longest → {c w : ℕ} → c ≤ w → w ≤ full_lines → next + length (pair_line (n + 1) c) ≤ length s
+  pub tabled_room : n < longest → {c w : ℕ} → c ≤ w → w ≤ full_lines → HasRoom p (pair_line (n + 1) c)
   tabled_room h {c} k l =
-      omega (arith, count_short (n + 1) c (omega (arith, d.fills.most)) (omega arith), d.low, d.room, d.size)
+      omega (arith, count_short (n + 1) c (omega (arith, d.fills.most)) (omega arith), d.low, d.room, d.put.size)
 
   -- .. which is put ..
-  pub tabled_next : n < longest → {s' : List ℕ} {next' c w : ℕ} → w ≡ g ^ (n + 1) → w ≤ full_lines → c ≤ w
-      → c ≡ count_of (λ v. bit_at table (from + v)) w → Put s s' next next' (pair_line (n + 1) c)
-      → Tabled g longest table s₀ s' at next' (from + w) (n + 1)
+  pub tabled_next : n < longest → {q : Output} {c w : ℕ} → w ≡ g ^ (n + 1) → w ≤ full_lines → c ≤ w
+      → c ≡ count_of (λ v. bit_at table (from + v)) w → Appends p q (pair_line (n + 1) c) → Tabled g longest table o q (from + w) (n + 1)
   unfolding powers
-  tabled_next h {c = c} e k l f p =
+  tabled_next h {c = c} e k l f a =
       let short = count_short (n + 1) c (omega (arith, d.fills.most)) (omega arith) in
       record {
         place = omega arith;
         fills = d.fills;
         room = d.room;
-        put = rw (next_line g n table d.begins e f) (d.put then p);
+        put = rw (next_line g n table d.begins e f) (d.put then a);
         begins = rw (add-one, ← d.begins, ← add-one, ← e);
-        size = rw p.stored (length-sets s next (pair_line (n + 1) c) ∙ d.size);
-        low = omega (arith, p.ends, d.low);
+        low = omega (arith, a.put.ends, d.low);
       }
 
   -- .. until all lengths are through.
-  pub tabled_end : longest ≤ n → Put s₀ s at next (count_lines g (standing g table) longest) × (next ≤ at + 7 * longest)
+  pub tabled_end : longest ≤ n → Appends o p (count_lines g (standing g table) longest) × (p.at ≤ o.at + 7 * longest)
   tabled_end h = let e : n ≡ longest = omega (arith, d.place) in (rw e at d.put, omega (arith, d.low))

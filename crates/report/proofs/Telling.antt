@@ -14,8 +14,6 @@ use Rattle.model.specs.Verdict.{clear, long, found, Judged}
 use Rattle.model.specs.Walk.{Step}
 use Rattle.model.proofs.Ranges.{valid_fits}
 use Rattle.model.proofs.Stores.{stored_steps}
-use Rattle.record.specs.declared.Answer.TheVariants.{Accepted, Refused}
-use Rattle.record.specs.declared.Reading.{Reading}
 use Rattle.record.specs.Held.{reading_of}
 use Rattle.record.specs.Reader.{Read}
 use Rattle.judge.specs.Answer.{Witness}
@@ -69,14 +67,13 @@ pub tells_long : {m : Model} → Judged m long → Told m long_line
 tells_long j = record { verdict = long; judged = j; tells = refl }
 
 -- The text of a model that a whole record holds is the text of the record ..
-pub acceptance : (x : Read Model) {r : Reading} → r ≡ reading_of x → r.answer ≡ Accepted → (text : List ℕ)
-    → Told r.model text → TextFor x text
+pub acceptance : (x : Read Model) {m : Model} → accepted m ≡ reading_of x → (text : List ℕ) → Told m text → TextFor x text
 unfolding reading_of
-acceptance (refused n) e a text j = absurd (let z : ◌≡◌ {A = ℕ} 0 1 = cc in omega arith)
-acceptance (accepted (m, rest)) e a text j = subst (λ r. Told r.model text) e j
+acceptance (refused n) e text j = absurd (let z : ◌≡◌ {A = ℕ} 0 1 = cc in omega arith)
+acceptance (accepted (m, rest)) {m = n} e text j = let same : n ≡ m = cc in subst (λ r. Told r text) same j
 
 -- .. and so is the line of a refusal.
-pub refusal : (x : Read Model) {r : Reading} {n : ℕ} → r ≡ reading_of x → r.answer ≡ Refused n → TextFor x (line refused_word n)
+pub refusal : (x : Read Model) {n : ℕ} → refused n ≡ reading_of x → TextFor x (line refused_word n)
 unfolding reading_of
-refusal (refused k) {r} {n} e a = let same : k ≡ n = cc in rw same
-refusal (accepted (m, rest)) e a = absurd (let z : ◌≡◌ {A = ℕ} 0 1 = cc in omega arith)
+refusal (refused k) {n} e = let same : k ≡ n = cc in rw same
+refusal (accepted (m, rest)) e = absurd (let z : ◌≡◌ {A = ℕ} 0 1 = cc in omega arith)

@@ -9,6 +9,8 @@ use Rattle.model.specs.Runs.{Marked}
 use Rattle.model.specs.Schedules.{Shown}
 use Rattle.model.specs.Verdict.{Verdict, clear, long, found, Judged}
 use Rattle.record.specs.Reader.{Read, read_of}
+use Rattle.writer.specs.declared.output.Output.{Output}
+use Rattle.writer.specs.Output.{Appends}
 use Rattle.text.specs.Text.{line}
 use Rattle.report.specs.Text.{refused_word, found_line, clear_line, long_line, step_lines, count_lines}
 
@@ -56,6 +58,13 @@ pub record Begins (Kind : List ℕ → Type 0) (r : ℕ) (old new : List ℕ) : 
 -- The bytes that a store needs. No text has more: `found 4095` with two depths of four digits, and 4,095 lines of seven bytes.
 abbrev pub text_room : ℕ
 text_room = 28686
+
+-- A text of this kind has been put into an output, no longer than any can be.
+pub record Says (Kind : List ℕ → Type 0) (old new : Output) : Type 0 where
+  pub text : List ℕ
+  pub kind : Kind text
+  pub put : Appends old new text
+  pub most : length text ≤ text_room
 
 -- What the call answers and leaves in the store: the text where there is room for any; else 0, and what it held.
 pub data Reports (bytes : List ℕ) (r : ℕ) (old new : List ℕ) : Type 0 where

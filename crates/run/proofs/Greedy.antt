@@ -18,6 +18,7 @@ use Rattle.costs.specs.Ends.{turn_of}
 use Rattle.summary.specs.Control.{Control}
 use Rattle.summary.specs.Stretch.{Path}
 use Rattle.summary.proofs.Numbers.{control_eq}
+use Rattle.run.specs.declared.plan.Plan.{Plan}
 use Rattle.run.specs.Exits.{Togo, Setting, Runs}
 use Rattle.run.proofs.Togos.{M, W}
 
@@ -36,7 +37,7 @@ earlier : {i : ThreadId} {j k : ℕ} {ss : List Step} → j ≤ k → FirstIn i 
 earlier h none = none
 earlier h (at l k e) = at l (omega arith) e
 
-module _ {exits plan : List ℕ} (w : Setting exits plan) where
+module _ {exits : List ℕ} {plan : Plan} (w : Setting exits plan) where
   -- A run starts in the turn that it stands in, or in a later one.
   first_in : {c : Control} {stack : List ℕ} {ss : List Step} → Runs w c stack ss → FirstIn w.id c.passed ss
   first_in (Path.stop h) = none

@@ -6,10 +6,8 @@ pub mod Greedy
 pub mod Moves
 pub mod Overs
 pub mod Pairing
-pub mod PlanHeads
 pub mod Plans
 pub mod Raising
-pub mod Stored
 pub mod Threads
 pub mod Tights
 pub mod Togos

@@ -4,12 +4,11 @@ use mathlib.Core.List.{List, ◌∷◌}
 use mathlib.Core.Path.{◌≡◌, refl, sym, ap}
 use Prim.Native.Nat.{ℕ, suc, ◌+◌, ◌*◌, ◌%◌, ◌≤◌, ◌<◌}
 use native.Mathlib.Omega.{arith}
-use lib.ListN.{length, get_or}
+use lib.ListN.{length}
 use Rattle.model.specs.declared.Right.{Right}
 use Rattle.model.specs.declared.Right.TheVariants.{Remove, Swap, Push}
 use Rattle.model.specs.declared.Rule.{Rule}
 use Rattle.model.specs.declared.ThreadId.{ThreadId}
-use Rattle.model.specs.declared.ThreadId.TheVariants.{A, B}
 use Rattle.model.specs.Rules.{rule_at, held_at, put}
 use Rattle.model.specs.Schedules.{most_steps}
 use Rattle.model.specs.Walk.{Step}
@@ -22,16 +21,12 @@ use Rattle.summary.proofs.Tables.{Symbols}
 use Rattle.run.specs.declared.head.Head.{Head}
 use Rattle.run.specs.Exits.{place, Togo, Setting, Runs}
 use Rattle.run.specs.Levels.{below, level_at, from, stack_of, over_level, after_step, Tight, Known, Ready, HeadFits}
-use Rattle.run.specs.Plan.{controls_in, rules_in, turn_in, rule_in}
+use Rattle.run.specs.Plan.{turn_in, rule_in}
+use Rattle.run.specs.declared.plan.Plan.{Plan}
 use Rattle.run.proofs.Greedy.{step_tight}
 use Rattle.run.proofs.Togos.{M, In, eight, within_line, level}
 
--- The numbers of a thread's turns, from its first.
-turn_at : (i : ThreadId) (j f : ℕ) → f ≡ turn_of i 0 → 2 * j + f ≡ turn_of i j
-turn_at A j f e = omega arith
-turn_at B j f e = omega arith
-
-module _ {exits plan : List ℕ} (w : Setting exits plan) where
+module _ {exits : List ℕ} {plan : Plan} (w : Setting exits plan) where
   -- The least steps after a right side has come onto a level that is known.
   pub after_known : {levels symbols : List ℕ} {j i : ℕ} {c : Control} (x : Right) → Known w levels symbols j i → In w c → j ≤ c.passed
       → Symbols Sym x → Togo (Runs w c (put x (below symbols i))) (after_step exits levels i (place c) x)
@@ -42,7 +37,7 @@ module _ {exits plan : List ℕ} (w : Setting exits plan) where
       level w c p a.0 f.0 (b.0 ∷ below symbols i) (over_level exits levels i b.0)
       (λ q l m. level w q l b.0 f.1 (below symbols i) (level_at levels i) (λ u v n. k.at i (omega arith) u v (omega arith)))
 
-  module _ {h : Head} (fits : HeadFits (controls_in plan) h) (ends : h.ends ≡ w.n) where
+  module _ {h : Head} (fits : HeadFits plan h) where
     -- A head is at a control of the line.
     pub head_in : In w (from h)
     head_in = numbered_in (eight w) (omega (arith, fits.passed)) fits.control
@@ -56,7 +51,7 @@ module _ {exits plan : List ℕ} (w : Setting exits plan) where
     next r = numbered h.passed (rule_in plan r).after.0
 
     -- A tight rule of the plan is a move of the thread.
-    pub tight_move : {levels : List ℕ} {count : ℕ} (r : ℕ) → r < rules_in plan → Tight exits levels h count (rule_in plan r)
+    pub tight_move : {levels : List ℕ} {count : ℕ} (r : ℕ) → r < plan.count → Tight exits levels h count (rule_in plan r)
         → M w (from h) h.symbol (step_by r) (rule_in plan r).right (next r)
     tight_move r low t =
         let l = rw w.planned.count at low in
@@ -64,7 +59,7 @@ module _ {exits plan : List ℕ} (w : Setting exits plan) where
         let to : Control = record { passed = h.passed; held = held_at w.thread r; shared = (rule_at w.thread r).after.0 } in
         let same : next r ≡ to =
         numbered_is to h.passed (rule_in plan r).after.0 refl (ap (λ (x : Rule). x.after.0) e)
-        (omega (arith, (w.fits.rules r l).next, w.four)) in
+        (omega (arith, (w.fits.rules r l).next, plan.in_range.four)) in
         record {
           rule = (applies_iff w.thread r (h.control % 4) h.symbol).1
               (record { listed = l; state = rw e at t.state; symbol = rw e at t.symbol });
@@ -72,14 +67,14 @@ module _ {exits plan : List ℕ} (w : Setting exits plan) where
           shared = ap (λ (c : Control). c.shared) same;
           held = ap (λ (c : Control). c.held) same;
           passed = refl;
-          turn = turn_at w.id h.passed (get_or plan 1 0) w.planned.turn;
+          turn = ap (λ (i : ThreadId). turn_of i h.passed) w.planned.turns;
         }
 
     -- A first step of a shortest run is by a rule of the plan that is tight.
     pub move_tight : {levels symbols : List ℕ} {count : ℕ} (t : Step) (y : Right) (e : Control) (ts : List Step)
         → Ready w levels symbols h (stack_of symbols h) count → count ≤ most_steps → M w (from h) h.symbol t y e
         → Runs w e (put y (below symbols h.under)) ts → suc (length ts) ≡ count
-        → (t.rule < rules_in plan) × Tight exits levels h count (rule_in plan t.rule)
+        → (t.rule < plan.count) × Tight exits levels h count (rule_in plan t.rule)
     move_tight {levels} {symbols} {count} t y e ts ready most m r len =
         let a = (applies_iff w.thread t.rule (h.control % 4) h.symbol).0 m.rule in
         let p = w.planned.rules t.rule a.listed in

@@ -2,7 +2,7 @@
 use mathlib.Core.List.{List}
 use mathlib.Core.Path.{◌≡◌, refl, ◌∙◌}
 use Prim.Native.Nat.{ℕ, zero, suc, ◌+◌, ◌*◌, ◌%◌, ◌≤◌, ◌<◌}
-use native.Mathlib.Decide.{ℕ_discrete, dec_lt}
+use native.Mathlib.Decide.{ℕ_discrete}
 use native.Mathlib.Nat.{zero-add}
 use native.Mathlib.Omega.{arith}
 use lib.ListN.{length, get_or, set, length-set}
@@ -19,25 +19,31 @@ over_same row rest other (suc k) h = rw (over_same row rest other k (λ y l. h y
 -- The places of controls from one on and before x are raised, and all below the level is kept.
 pub record Raising (exits old new : List ℕ) (controls i γ from x : ℕ) : Type 0 where
   pub size : length new ≡ levels_size
-  pub here : x % 8 < controls
   pub kept : (k : ℕ) → k < 24 * (i + 1) → get_or new k 0 ≡ get_or old k 0
   pub done : (y : ℕ) → from ≤ y → y < x → y % 8 < controls → level_at new (i + 1) y ≡ over_level exits old i γ y
 
 -- At first nothing is.
-pub raising_none : {exits old : List ℕ} {controls i γ from : ℕ} → length old ≡ levels_size → from % 8 ≡ 0 → 1 ≤ controls
-    → Raising exits old old controls i γ from from
-raising_none size e l =
-    record { size = size; here = omega arith; kept = λ k h. refl; done = λ y h k c. absurd (omega arith) }
+pub raising_none : {exits old : List ℕ} {controls i γ from : ℕ} → length old ≡ levels_size → Raising exits old old controls i γ from from
+raising_none size = record { size = size; kept = λ k h. refl; done = λ y h k c. absurd (omega arith) }
+
+-- A place that no control has stays.
+pub raising_over : {exits old new : List ℕ} {controls i γ from x : ℕ} → controls ≤ x % 8 → Raising exits old new controls i γ from x
+    → Raising exits old new controls i γ from (x + 1)
+raising_over {controls = controls} {x = x} none r = record { size = r.size; kept = r.kept; done = λ y a b c. r.done y a (below y b c) c }
+  where
+    below : (y : ℕ) → y < x + 1 → y % 8 < controls → y < x
+    below y b c =
+        elim (ℕ_discrete y x) [
+          | yes s ↦ absurd (let t : x % 8 < controls = rw s at c in omega arith)
+          | no s ↦ omega arith
+        ]
 
 -- One place more.
-pub raising_one : {exits old new : List ℕ} {controls i γ from x next count : ℕ} → Raising exits old new controls i γ from x → i + 1 < 4096
-    → x < 24 → count ≡ over_level exits new i γ x → next % 8 < controls
-    → ((y : ℕ) → x < y → y < next → y % 8 < controls → ⊥)
-    → Raising exits old (set new (24 * (i + 1) + x) count) controls i γ from next
-raising_one {exits} {old} {new} {controls} {i} {γ} {from} {x} {next} {count} r low h e p between =
+pub raising_one : {exits old new : List ℕ} {controls i γ from x count : ℕ} → Raising exits old new controls i γ from x → i + 1 < 4096
+    → x < 24 → count ≡ over_level exits new i γ x → Raising exits old (set new (24 * (i + 1) + x) count) controls i γ from (x + 1)
+raising_one {exits} {old} {new} {controls} {i} {γ} {from} {x} {count} r low h e =
     record {
       size = length-set new _ _ ∙ r.size;
-      here = p;
       kept = λ k l. get_or-set_other new (24 * (i + 1) + x) k count 0 (λ s. omega arith) ∙ r.kept k l;
       done = done;
     }
@@ -45,18 +51,13 @@ raising_one {exits} {old} {new} {controls} {i} {γ} {from} {x} {next} {count} r 
     same : over_level exits new i γ x ≡ over_level exits old i γ x
     same = over_same (exit_at exits x γ) (level_at new i) (level_at old i) 24 (λ y l. r.kept (24 * i + y) (omega arith))
 
-    done : (y : ℕ) → from ≤ y → y < next → y % 8 < controls
+    done : (y : ℕ) → from ≤ y → y < x + 1 → y % 8 < controls
         → level_at (set new (24 * (i + 1) + x) count) (i + 1) y ≡ over_level exits old i γ y
     done y a b c =
         elim (ℕ_discrete y x) [
           | yes s ↦ rw s (get_or-set_same new (24 * (i + 1) + x) count 0 (omega (arith, r.size)) ∙ (e ∙ same))
           | no s ↦
-              elim (dec_lt x y) [
-                | yes l ↦ absurd (between y l b c)
-                | no l ↦
-                    get_or-set_other new (24 * (i + 1) + x) (24 * (i + 1) + y) count 0 (λ t. s (omega arith))
-                    ∙ r.done y a (omega arith) c
-              ]
+              get_or-set_other new (24 * (i + 1) + x) (24 * (i + 1) + y) count 0 (λ t. s (omega arith)) ∙ r.done y a (omega arith) c
         ]
 
 -- The lowest level is made for the places before x.

@@ -8,7 +8,7 @@ use native.Mathlib.Decide.{dec_lt}
 use native.Mathlib.Omega.{arith}
 use lib.ListN.{length, length-append}
 use Rattle.model.specs.declared.Right.{Right}
-use Rattle.model.specs.declared.Top.{Top}
+use Rattle.model.specs.Tops.{Top}
 use Rattle.model.specs.Schedules.{most_steps}
 use Rattle.model.specs.Walk.{Step}
 use Rattle.model.proofs.Inside.{applies_iff}
@@ -24,33 +24,34 @@ use Rattle.summary.proofs.Overs.{Over, within, gone, overs, pops, stays}
 use Rattle.summary.proofs.Ranging.{Sym, ranged}
 use Rattle.summary.proofs.Tables.{Ranged, Bounded, bounded, exact_closed}
 use Rattle.run.specs.Exits.{place, exit_at, least_over, Togo, Setting, Runs}
-use Rattle.run.specs.Plan.{states_in, controls_in, ends_in}
+use Rattle.run.specs.Plan.{ends_in}
+use Rattle.run.specs.declared.plan.Plan.{Plan}
 use Rattle.run.proofs.Overs.{over_stay, over_each, over-one}
 
-module _ {exits plan : List ℕ} (w : Setting exits plan) where
+module _ {exits : List ℕ} {plan : Plan} (w : Setting exits plan) where
   -- The thread's steps and turn ends.
   abbrev pub M : Control → ℕ → Step → Right → Control → Type 0
   M = Moves w.thread (turn_of w.id)
 
   abbrev pub W : Control → Control → Type 0
-  W = Switches (ends_in plan) w.n
+  W = Switches (ends_in plan) plan.n
 
   -- The controls of the thread along the line.
   abbrev pub In : Control → Type 0
-  In = InTable (controls_in plan) w.n
+  In = InTable plan.controls plan.n
 
   -- There are at most eight controls in a turn.
-  pub eight : controls_in plan ≤ 8
-  eight = omega (arith, w.planned.controls, (controls_range w.thread (states_in plan)).1, w.four)
+  pub eight : plan.controls ≤ 8
+  eight = omega (arith, w.planned.controls, (controls_range w.thread plan.states).1, plan.in_range.four)
 
   -- A control has a place.
   pub place_low : (c : Control) → In c → place c < 24
-  place_low c p = omega (arith, p.passed, p.number, eight, w.two)
+  place_low c p = omega (arith, p.passed, p.number, eight, plan.in_range.two)
 
   -- Steps and turn ends lead from controls to controls.
   pub within_line : Ranged M W In Sym
   within_line =
-      let r = ranged (turn_of w.id) w.four w.fits w.inside in
+      let r = ranged (turn_of w.id) plan.in_range.four w.fits w.inside in
       rw (← w.planned.controls) at r
 
   -- No rule takes the floor.
@@ -65,7 +66,7 @@ module _ {exits plan : List ℕ} (w : Setting exits plan) where
   cell_of c γ (stay f e) = exit_at exits (place c) γ 24
 
   abbrev Last : Top → Control → Type 0
-  Last f e = (f ≡ w.top) × (e ≡ control w.n w.last)
+  Last f e = (f ≡ w.top) × (e ≡ control plan.n w.last)
 
   -- No stretch is shorter than its cell says.
   bound : {c : Control} {γ : ℕ} {d : End Control} {ss rest : List Step} → In c → γ ≤ 16 → Asks Last d → Stretch M W c γ d ss rest
@@ -89,10 +90,10 @@ module _ {exits plan : List ℕ} (w : Setting exits plan) where
   decoded : (x γ y : ℕ) → x < 24 → γ ≤ 16 → y < 24
       → ((q : Control) × In q × (place q ≡ y)) ⊎ (most_steps < exit_at exits x γ y)
   decoded x γ y a b h =
-      elim (dec_lt (y % 8) (controls_in plan)) [
+      elim (dec_lt (y % 8) plan.controls) [
         | no l ↦ inr (omega (arith, w.none x γ y a b h (λ i j. l i)))
         | yes l ↦
-            elim (dec_lt w.n (y / 8)) [
+            elim (dec_lt plan.n (y / 8)) [
               | yes k ↦ inr (omega (arith, w.none x γ y a b h (λ i j. omega arith)))
               | no k ↦
                   let inside : In (numbered (y / 8) (y % 8)) = numbered_in eight (omega (arith, k)) l in
@@ -154,7 +155,7 @@ module _ {exits plan : List ℕ} (w : Setting exits plan) where
         least = λ ss r h. go (overs M W w.top (floored M W w.top 16 floor_idle low r));
       }
     where
-      go : {ss : List Step} → Over M W w.top c (16 ∷ []) ss (control w.n w.last) → exit_at exits (place c) 16 24 ≤ length ss
+      go : {ss : List Step} → Over M W w.top c (16 ∷ []) ss (control plan.n w.last) → exit_at exits (place c) 16 24 ≤ length ss
       go (within r) = let b = bound p (omega arith) (refl, refl) r in omega (arith, b.most)
       go (gone r o) = absurd (never 16 floor_idle r)
 

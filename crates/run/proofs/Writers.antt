@@ -1,7 +1,7 @@
 -- What the writers store is the first of the shortest runs: each case of the code is one step of the greedy choice, and the bytes of a
 -- step come before those of the rest.
 use mathlib.Core.List.{List, [], ◌∷◌}
-use mathlib.Core.Path.{◌≡◌, refl, sym, ap, ◌∙◌}
+use mathlib.Core.Path.{◌≡◌, refl, sym, ap}
 use Prim.Native.Nat.{ℕ, suc, ◌+◌, ◌-◌, ◌*◌, ◌≤◌, ◌<◌}
 use native.Mathlib.Numerals.{add-one}
 use native.Mathlib.Omega.{arith}
@@ -17,31 +17,26 @@ use Rattle.summary.proofs.Numbers.{number_at, numbered_is, rules_in_lem}
 use Rattle.run.specs.declared.head.Head.{Head}
 use Rattle.run.specs.Exits.{place, Togo, Setting, Runs}
 use Rattle.run.specs.Levels.{below, from, stack_of, entered_at, Steps, Tight, Ready, HeadFits}
-use Rattle.run.specs.Plan.{controls_in, rules_in, turn_in, ends_in, rule_in, InRange}
+use Rattle.run.specs.Plan.{turn_in, ends_in, rule_in}
+use Rattle.run.specs.declared.plan.Plan.{Plan}
 use Rattle.run.proofs.Greedy.{first_step, turn_end, first_turn}
 use Rattle.run.proofs.Moves.{after_known, head_in, step_by, next, tight_move, move_tight}
 use Rattle.run.proofs.Togos.{M, W, eight, within_line, bare_still}
 
--- The rule that a search found is one of the list, unless the search came to its end.
-pub low_rule : (r n count : ℕ) → r ≤ count → n ≡ count → (r ≡ n → ⊥) → r < count
-low_rule r n count h e f = omega arith
-
 -- A head in range is so after the end of its turn ..
-pub entered_fits : {plan : List ℕ} {h n : Head} → InRange plan → HeadFits (controls_in plan) h → h.passed < h.ends
-    → n ≡ entered_at h (ends_in plan h.passed).enter → HeadFits (controls_in plan) n
-entered_fits {h = h} range fits l e =
-    let k = range.ends h.passed (omega (arith, fits.ends)) in
-    rw e
-    (record { ends = fits.ends; passed = omega arith; control = omega (arith, k.1, range.controls.0); symbol = fits.symbol })
+pub entered_fits : {plan : Plan} {h n : Head} → HeadFits plan h → h.passed < plan.n → n ≡ entered_at h (ends_in plan h.passed).enter
+    → HeadFits plan n
+entered_fits {plan} {h} fits l e =
+    let k = plan.in_range.inside h.passed (omega (arith, plan.in_range.two)) in
+    rw e (record { passed = omega arith; control = omega (arith, k.1, plan.in_range.some); symbol = fits.symbol })
 
 -- .. and after a step.
-pub step_fits : {plan symbols left : List ℕ} {h n : Head} (r : ℕ) → InRange plan → HeadFits (controls_in plan) h → r < rules_in plan
-    → Steps symbols h (rule_in plan r) n left → HeadFits (controls_in plan) n
-step_fits r range fits l s =
+pub step_fits : {symbols left : List ℕ} {plan : Plan} {h n : Head} (r : ℕ) → HeadFits plan h → r < plan.count
+    → Steps symbols h (rule_in plan r) n left → HeadFits plan n
+step_fits {plan = plan} r fits l s =
     record {
-      ends = omega (arith, s.ends, fits.ends);
-      passed = omega (arith, s.passed, s.ends, fits.passed);
-      control = omega (arith, s.control, (range.rules r l).to);
+      passed = omega (arith, s.passed, fits.passed);
+      control = omega (arith, s.control, (plan.in_range.within r l).to);
       symbol = s.symbol;
     }
 
@@ -69,27 +64,27 @@ none_first {P} {count} t z = let r = t.some (omega arith) in go r.0 r.1 (omega (
     go [] r h = record { run = r; count = sym z; first = λ ts p e b. before_none b }
     go (x ∷ ss) r h = absurd (omega arith)
 
-module _ {exits plan : List ℕ} (w : Setting exits plan) {levels symbols : List ℕ} where
+module _ {exits : List ℕ} {plan : Plan} (w : Setting exits plan) {levels symbols : List ℕ} where
   -- Where no step is left nothing is written.
   pub stopped : {h : Head} {stack : List ℕ} {count : ℕ} (at : ℕ) (old : List ℕ) → Ready w levels symbols h stack count → count ≡ 0
       → Stored (First (Runs w (from h) stack) count) count at old old
   stopped at old ready z = record { steps = []; run = none_first ready.togo z; count = sym z; shown = refl }
 
-  module _ {h : Head} (fits : HeadFits (controls_in plan) h) {count : ℕ} (low : 0 < count) (most : count ≤ most_steps)
+  module _ {h : Head} (fits : HeadFits plan h) {count : ℕ} (low : 0 < count) (most : count ≤ most_steps)
       (ready : Ready w levels symbols h (stack_of symbols h) count) where
     -- Where no rule is tight, the turn ends and as many steps are left.
-    module _ (none : (i : ℕ) → i < rules_in plan → Tight exits levels h count (rule_in plan i) → ⊥) where
+    module _ (none : (i : ℕ) → i < plan.count → Tight exits levels h count (rule_in plan i) → ⊥) where
       no_move : (t : Step) (y : Right) (e : Control) (ts : List Step) → M w (from h) h.symbol t y e
           → Runs w e (put y (below symbols h.under)) ts → suc (length ts) ≡ count → ⊥
-      no_move t y e ts m r k = let g = move_tight w fits ready.ends t y e ts ready most m r k in none t.rule g.0 g.1
+      no_move t y e ts m r k = let g = move_tight w fits t y e ts ready most m r k in none t.rule g.0 g.1
 
       -- So there is a turn end ..
       turn : (d : Control) × W w (from h) d × Togo (Runs w d (stack_of symbols h)) count
       turn = turn_end w low no_move most ready.togo
 
       -- .. of those to come ..
-      pub turn_left : h.passed < h.ends
-      turn_left = omega (arith, turn.1.more, ready.ends)
+      pub turn_left : h.passed < plan.n
+      turn_left = turn.1.more
 
       -- .. and it leads to the next turn's first control.
       abbrev entered : Head
@@ -99,12 +94,11 @@ module _ {exits plan : List ℕ} (w : Setting exits plan) {levels symbols : List
       enters =
           let s = turn.1 in
           sym (numbered_is turn.0 (h.passed + 1) (ends_in plan h.passed).enter (omega (arith, s.passed)) (rw (s.fresh, s.enter) (omega arith))
-          (omega (arith, s.enter, (w.inside h.passed s.more).1, w.four)))
+          (omega (arith, s.enter, (w.inside h.passed s.more).1, plan.in_range.four)))
 
       pub turn_ready : Ready w levels symbols entered (stack_of symbols h) count
       turn_ready =
           record {
-            ends = ready.ends;
             known = record { at = λ i l c p k. ready.known.at i l c p (omega arith) };
             togo = rw (← enters) turn.2;
           }
@@ -114,38 +108,37 @@ module _ {exits plan : List ℕ} (w : Setting exits plan) {levels symbols : List
       turned q = stored_as (λ us f. first_turn w low no_move turn.1 (rw (← enters) at f)) q
 
     -- The first tight rule is the next step.
-    module _ (r : ℕ) (listed : r < rules_in plan) (tight : Tight exits levels h count (rule_in plan r))
+    module _ (r : ℕ) (listed : r < plan.count) (tight : Tight exits levels h count (rule_in plan r))
         (lower : (i : ℕ) → i < r → Tight exits levels h count (rule_in plan i) → ⊥) where
-      move : M w (from h) h.symbol (step_by w fits ready.ends r) (rule_in plan r).right (next w fits ready.ends r)
-      move = tight_move w fits ready.ends r listed tight
+      move : M w (from h) h.symbol (step_by w fits r) (rule_in plan r).right (next w fits r)
+      move = tight_move w fits r listed tight
 
       -- One step fewer is left after it.
-      left : Togo (Runs w (next w fits ready.ends r) (put (rule_in plan r).right (below symbols h.under))) (count - 1)
+      left : Togo (Runs w (next w fits r) (put (rule_in plan r).right (below symbols h.under))) (count - 1)
       left =
-          let i = (within_line w).moves (head_in w fits ready.ends) move in
+          let i = (within_line w).moves (head_in w fits) move in
           let k = after_known w (rule_in plan r).right ready.known i.0 (omega arith) i.1 in
           let low = rw w.planned.count at listed in
-          let small : (rule_in plan r).after.0 < 8 = rw (w.planned.rules r low) (omega (arith, ((rules_in_lem w.four w.fits).rules r low).to, eight w, w.planned.controls)) in
-          let to : place (next w fits ready.ends r) ≡ 8 * h.passed + (rule_in plan r).after.0 =
+          let small : (rule_in plan r).after.0 < 8 = rw (w.planned.rules r low) (omega (arith, ((rules_in_lem plan.in_range.four w.fits).rules r low).to, eight w, w.planned.controls)) in
+          let to : place (next w fits r) ≡ 8 * h.passed + (rule_in plan r).after.0 =
           omega (arith, (number_at h.passed (rule_in plan r).after.0 small).0) in
           rw (to, tight.steps) at k
 
       -- With the first run behind it, it is the first.
-      goes : (us : List Step) → First (Runs w (next w fits ready.ends r) (put (rule_in plan r).right (below symbols h.under))) (count - 1) us
-          → First (Runs w (from h) (stack_of symbols h)) count (step_by w fits ready.ends r ∷ us)
+      goes : (us : List Step) → First (Runs w (next w fits r) (put (rule_in plan r).right (below symbols h.under))) (count - 1) us
+          → First (Runs w (from h) (stack_of symbols h)) count (step_by w fits r ∷ us)
       goes us f =
           let whole : suc (count - 1) ≡ count = omega arith in
           rw whole at (first_step w move f
-          (λ t y e ts m p k l. let g = move_tight w fits ready.ends t y e ts ready most m p (omega arith) in lower t.rule l g.1))
+          (λ t y e ts m p k l. let g = move_tight w fits t y e ts ready most m p (omega arith) in lower t.rule l g.1))
 
       -- The head that a step leads to.
-      leads : {n : Head} {rest : List ℕ} → Steps symbols h (rule_in plan r) n rest → from n ≡ next w fits ready.ends r
+      leads : {n : Head} {rest : List ℕ} → Steps symbols h (rule_in plan r) n rest → from n ≡ next w fits r
       leads s = rw (s.passed, s.control)
 
       pub step_ready : {n : Head} {rest : List ℕ} → Steps symbols h (rule_in plan r) n rest → Ready w levels symbols n rest (count - 1)
       step_ready s =
           record {
-            ends = s.ends ∙ ready.ends;
             known = record { at = λ i l c p k. ready.known.at i (omega (arith, s.under)) c p (omega (arith, s.passed)) };
             togo = rw (leads s, ← s.stack) left;
           }
@@ -153,7 +146,7 @@ module _ {exits plan : List ℕ} (w : Setting exits plan) {levels symbols : List
       pub stepped : {n : Head} {rest : List ℕ} {at : ℕ} {old new : List ℕ} → Steps symbols h (rule_in plan r) n rest
           → Stored (First (Runs w (from n) rest) (count - 1)) (count - 1) (at + 2) (set (set old at (turn_in plan h.passed)) (at + 1) r) new
           → Stored (First (Runs w (from h) (stack_of symbols h)) count) count at old new
-      stepped s q = step_stored (step_by w fits ready.ends r) goes low (rw (leads s, ← s.stack) at q)
+      stepped s q = step_stored (step_by w fits r) goes low (rw (leads s, ← s.stack) at q)
 
       -- On an empty stack no step is left.
       pub emptied : {at : ℕ} {old new : List ℕ} → put (rule_in plan r).right (below symbols h.under) ≡ []
@@ -162,5 +155,5 @@ module _ {exits plan : List ℕ} (w : Setting exits plan) {levels symbols : List
       emptied e q =
           let run = left.some (omega arith) in
           let z : length run.0 ≡ 0 = ap length (bare_still w run.1 e) in
-          step_stored (step_by w fits ready.ends r) goes low
+          step_stored (step_by w fits r) goes low
           (record { steps = []; run = none_first left (omega (arith, run.2)); count = omega (arith, run.2); shown = q })

@@ -3,7 +3,7 @@
 use Rattle.std.specs.Prelude.{List, ◌≡◌, ℕ, zero, suc, ◌+◌, ◌*◌, ◌/◌, ◌%◌, ◌≤◌, ◌<◌, min, length, get_or}
 use Rattle.model.specs.declared.Thread.{Thread}
 use Rattle.model.specs.declared.ThreadId.{ThreadId}
-use Rattle.model.specs.declared.Top.{Top}
+use Rattle.model.specs.Tops.{Top}
 use Rattle.model.specs.Fits.{ThreadFits, TopFits}
 use Rattle.model.specs.Schedules.{most_steps}
 use Rattle.model.specs.Walk.{Step}
@@ -12,7 +12,8 @@ use Rattle.costs.specs.Ends.{turn_of}
 use Rattle.summary.specs.Control.{Control, number, Moves, Switches, InTable, Inside}
 use Rattle.summary.specs.Stretch.{pop, stay, Path}
 use Rattle.summary.specs.Table.{unreached, Exact}
-use Rattle.run.specs.Plan.{states_in, controls_in, ends_in, Planned}
+use Rattle.run.specs.declared.plan.Plan.{Plan}
+use Rattle.run.specs.Plan.{ends_in, Planned}
 
 -- The place of a control among 24: eight for each number of turn ends passed.
 abbrev pub place : Control → ℕ
@@ -42,28 +43,25 @@ pub record Togo (Run : List Step → Type 0) (count : ℕ) : Type 0 where
   pub least : (ss : List Step) → Run ss → length ss ≤ most_steps → count ≤ length ss
 
 -- A thread along a line: its plan, and its exits, each of which is exact.
-pub record Setting (exits plan : List ℕ) : Type 0 where
+pub record Setting (exits : List ℕ) (plan : Plan) : Type 0 where
   pub thread : Thread
   pub top : Top
   pub id : ThreadId
-  pub n : ℕ
   pub last : ℕ
-  pub two : n ≤ 2
-  pub four : states_in plan ≤ 4
   pub named : TopFits top
-  pub fits : ThreadFits (states_in plan) thread
-  pub inside : Inside (states_in plan) n (ends_in plan)
+  pub fits : ThreadFits plan.states thread
+  pub inside : Inside plan.states plan.n (ends_in plan)
   pub planned : Planned thread id plan
   -- the symbol is gone at a control
-  pub gone : (c q : Control) (γ : ℕ) → InTable (controls_in plan) n c → InTable (controls_in plan) n q → γ ≤ 16
-      → Exact (Moves thread (turn_of id)) (Switches (ends_in plan) n) c γ (pop q) (exit_at exits (place c) γ (place q))
+  pub gone : (c q : Control) (γ : ℕ) → InTable plan.controls plan.n c → InTable plan.controls plan.n q → γ ≤ 16
+      → Exact (Moves thread (turn_of id)) (Switches (ends_in plan) plan.n) c γ (pop q) (exit_at exits (place c) γ (place q))
   -- something stands in its place at the end
-  pub stays : (c : Control) (γ : ℕ) → InTable (controls_in plan) n c → γ ≤ 16
-      → Exact (Moves thread (turn_of id)) (Switches (ends_in plan) n) c γ (stay top (control n last)) (exit_at exits (place c) γ 24)
+  pub stays : (c : Control) (γ : ℕ) → InTable plan.controls plan.n c → γ ≤ 16
+      → Exact (Moves thread (turn_of id)) (Switches (ends_in plan) plan.n) c γ (stay top (control plan.n last)) (exit_at exits (place c) γ 24)
   -- a place that no control has is never reached
-  pub none : (x γ y : ℕ) → x < 24 → γ ≤ 16 → y < 24 → (y % 8 < controls_in plan → y / 8 ≤ n → ⊥) → unreached ≤ exit_at exits x γ y
+  pub none : (x γ y : ℕ) → x < 24 → γ ≤ 16 → y < 24 → (y % 8 < plan.controls → y / 8 ≤ plan.n → ⊥) → unreached ≤ exit_at exits x γ y
 
 -- The runs of the thread from a control and a stack to its end along the line.
-abbrev pub Runs : {exits plan : List ℕ} → Setting exits plan → Control → List ℕ → List Step → Type 0
+abbrev pub Runs : {exits : List ℕ} {plan : Plan} → Setting exits plan → Control → List ℕ → List Step → Type 0
 Runs {plan = plan} w c stack ss =
-    Path (Moves w.thread (turn_of w.id)) (Switches (ends_in plan) w.n) w.top c stack ss (control w.n w.last)
+    Path (Moves w.thread (turn_of w.id)) (Switches (ends_in plan) plan.n) w.top c stack ss (control plan.n w.last)

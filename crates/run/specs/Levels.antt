@@ -1,5 +1,5 @@
 -- The stack of a thread in a buffer: for each level its symbol, and for each place the least steps to the end with that symbol on top.
-use Rattle.std.specs.Prelude.{Bool, true, false, List, [], ◌∷◌, ◌≡◌, ℕ, zero, suc, ◌+◌, ◌-◌, ◌*◌, ◌%◌, ◌≤◌, ◌<◌, length, get_or}
+use Rattle.std.specs.Prelude.{Bool, true, false, Option, Some, None, List, [], ◌∷◌, ◌≡◌, ℕ, zero, suc, ◌+◌, ◌-◌, ◌*◌, ◌%◌, ◌≤◌, ◌<◌, get_or}
 use Rattle.model.specs.declared.Right.{Right}
 use Rattle.model.specs.declared.Right.TheVariants.{Remove, Swap, Push}
 use Rattle.model.specs.declared.Rule.{Rule}
@@ -8,8 +8,9 @@ use Rattle.model.specs.Rules.{put}
 use Rattle.run.specs.declared.head.Head.{Head}
 use Rattle.run.specs.declared.head.Onward.{Onward}
 use Rattle.run.specs.declared.head.Onward.TheVariants.{Done, One, Two}
+use Rattle.run.specs.Plan.{rule_in}
 use Rattle.run.specs.Exits.{place, exit_at, least_over, Togo, Setting, Runs}
-use Rattle.run.specs.Plan.{controls_in}
+use Rattle.run.specs.declared.plan.Plan.{Plan}
 
 -- How many levels the buffer has: one for the empty stack, and one for each of 4,095 symbols that may lie under the top.
 abbrev pub levels_size : ℕ
@@ -24,10 +25,6 @@ below symbols (suc i) = get_or symbols (suc i) 0 ∷ below symbols i
 abbrev pub level_at : List ℕ → ℕ → ℕ → ℕ
 level_at levels i x = get_or levels (24 * i + x) 0
 
--- A head from its numbers.
-abbrev pub head_at : ℕ → ℕ → ℕ → ℕ → ℕ → Head
-head_at passed ends control symbol under = record { passed = passed; ends = ends; control = control; symbol = symbol; under = under }
-
 -- The control of a head.
 abbrev pub from : Head → Control
 from h = numbered h.passed h.control
@@ -38,12 +35,11 @@ stack_of symbols h = h.symbol ∷ below symbols h.under
 
 -- The head after the end of the turn, where the next one starts in state q.
 abbrev pub entered_at : Head → ℕ → Head
-entered_at h q = record { passed = h.passed + 1; ends = h.ends; control = q; symbol = h.symbol; under = h.under }
+entered_at h q = record { passed = h.passed + 1; control = q; symbol = h.symbol; under = h.under }
 
 -- A head after a step by a rule, and the whole stack that the rule has left.
 pub record Steps (symbols : List ℕ) (h : Head) (r : Rule) (next : Head) (left : List ℕ) : Type 0 where
   pub passed : next.passed ≡ h.passed
-  pub ends : next.ends ≡ h.ends
   pub control : next.control ≡ r.after.0
   pub symbol : next.symbol ≤ 16
   pub under : next.under ≤ h.under
@@ -61,7 +57,7 @@ Removes symbols h c Done = h.under ≡ 0
 Removes symbols h c (One next) =
     (0 < h.under)
     × (next
-    ≡ record { passed = h.passed; ends = h.ends; control = c; symbol = get_or symbols h.under 0; under = h.under - 1 })
+    ≡ record { passed = h.passed; control = c; symbol = get_or symbols h.under 0; under = h.under - 1 })
 Removes symbols h c (Two next b) = ⊥
 
 -- The least steps to the end with a symbol on top of a level, from a place.
@@ -80,33 +76,29 @@ pub record Tight (exits levels : List ℕ) (h : Head) (count : ℕ) (r : Rule) :
   pub symbol : r.symbol.0 ≡ h.symbol
   pub steps : after_step exits levels h.under (8 * h.passed + r.after.0) r.right ≡ count - 1
 
+-- The first rule of the plan that is a tight step, or that there is none.
+abbrev pub FirstTight : List ℕ → Plan → List ℕ → Head → ℕ → Option ℕ → Type 0
+FirstTight exits plan levels h count (Some r) =
+    (r < plan.count)
+    × Tight exits levels h count (rule_in plan r)
+    × ((i : ℕ) → i < r → Tight exits levels h count (rule_in plan i) → ⊥)
+FirstTight exits plan levels h count None = (i : ℕ) → i < plan.count → Tight exits levels h count (rule_in plan i) → ⊥
+
 -- The levels up to one are known: they say the truth for all controls of a turn and of those after it.
-pub record Known {exits plan : List ℕ} (w : Setting exits plan) (levels symbols : List ℕ) (j top : ℕ) : Type 0 where
-  pub at : (i : ℕ) → i ≤ top → (c : Control) → InTable (controls_in plan) w.n c → j ≤ c.passed
+pub record Known {exits : List ℕ} {plan : Plan} (w : Setting exits plan) (levels symbols : List ℕ) (j top : ℕ) : Type 0 where
+  pub at : (i : ℕ) → i ≤ top → (c : Control) → InTable plan.controls plan.n c → j ≤ c.passed
       → Togo (Runs w c (below symbols i)) (level_at levels i (place c))
 
 -- A head in a setting whose levels are known, with so many steps to the end from a whole stack that is its own.
-pub record Ready {exits plan : List ℕ} (w : Setting exits plan) (levels symbols : List ℕ) (h : Head) (stack : List ℕ) (count : ℕ) : Type 0 where
-  pub ends : h.ends ≡ w.n
+pub record Ready {exits : List ℕ} {plan : Plan} (w : Setting exits plan) (levels symbols : List ℕ) (h : Head) (stack : List ℕ) (count : ℕ) : Type 0 where
   pub known : Known w levels symbols h.passed h.under
   pub togo : Togo (Runs w (from h) stack) count
 
--- The numbers of a head are in range, in a plan of so many controls.
-pub record HeadFits (controls : ℕ) (h : Head) : Type 0 where
-  pub ends : h.ends ≤ 2
-  pub passed : h.passed ≤ h.ends
-  pub control : h.control < controls
+-- The numbers of a head are in range in a plan.
+pub record HeadFits (plan : Plan) (h : Head) : Type 0 where
+  pub passed : h.passed ≤ plan.n
+  pub control : h.control < plan.controls
   pub symbol : h.symbol ≤ 16
-
--- The bytes of the symbols are symbols.
-pub record SymbolsFit (symbols : List ℕ) : Type 0 where
-  pub low : (i : ℕ) → get_or symbols i 0 ≤ 16
-
--- The buffers of the writers have their sizes, and the symbols are in range.
-pub record Buffers (levels symbols : List ℕ) : Type 0 where
-  pub size : length levels ≡ levels_size
-  pub room : length symbols ≡ 4096
-  pub fit : SymbolsFit symbols
 
 -- An answer yes or no to whether something holds.
 abbrev pub Decides : Bool → Type 0 → Type 0

@@ -3,4 +3,5 @@ pub mod Chosen
 pub mod Exits
 pub mod Filled
 pub mod Levels
+pub mod Marked
 pub mod Plan

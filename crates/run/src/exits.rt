@@ -1,143 +1,114 @@
 // The exits of a thread along a line, filled from its table in the order of their addresses.
-ghost use Rattle.std.specs.Prelude.{◌+◌, ◌*◌, ◌≤◌, ◌<◌, length};
-ghost use Rattle.costs.specs.Lanes.{LaneTo};
-ghost use Rattle.summary.specs.Cells.{size};
-ghost use Rattle.run.specs.Exits.{row_of};
-ghost use Rattle.run.specs.Filled.{FilledTo, Extends, Filled, Fresh};
-ghost use Rattle.run.specs.Plan.{controls_in, ends_in, InRange};
+ghost use Rattle.std.specs.Prelude.{◌≡◌, ◌+◌, ◌*◌, ◌≤◌, ◌<◌, length};
 
-use crate::levels::EXITS;
-use crate::plan::{PLAN_SIZE, byte};
-use costs::line::entry_at;
+use crate::course::{Course, EXITS};
+use crate::plan::Plan;
+use costs::table::Table;
 use summary::cells::gone_at;
 
-// Fills the exits of a thread along a line with n turn ends from its table: for each control and symbol, the least steps until the
-// symbol is gone at each control, and the least to the destination of the end.
-pub fn fill(exits: &mut [u16; EXITS], table: &[u16], plan: &[u8; PLAN_SIZE], n: usize, dest: usize)
-    requires fact_1 { InRange plan.now }
-    requires fact_2 { (size (controls_in plan.now) ≤ length table.now) × (n ≤ 2) × (dest < 16) }
-    requires fact_3 { Fresh exits.old }
-    ensures { Filled table.now plan.now n dest exits.new }
-{
-    let mut j = 0;
-    while j <= n {
-        fill_turn(exits, table, plan, n, dest, j);
-        j += 1;
-    }
-}
-
-// The exits from the controls of turn j.
-fn fill_turn(
-    exits: &mut [u16; EXITS],
-    table: &[u16],
-    plan: &[u8; PLAN_SIZE],
-    n: usize,
+// What the exits are filled from: the thread's table, its plan, and the destination of its end.
+#[derive(Clone, Copy)]
+struct Source<'t, 'p> {
+    table: Table<'t>,
+    plan: &'p Plan,
     dest: usize,
-    j: usize,
-)
-    requires fact_1 { InRange plan.now }
-    requires fact_2 { (size (controls_in plan.now) ≤ length table.now) × (n ≤ 2) × (dest < 16) × (j ≤ n) }
-    requires fact_3 { FilledTo table.now plan.now n dest (row_of (8 * j) 0) exits.old }
-    ensures { FilledTo table.now plan.now n dest (row_of (8 * (j + 1)) 0) exits.new }
-{
-    let controls = byte(plan, 7);
-    let mut p = 0;
-    while p < controls {
-        fill_place(exits, table, plan, n, dest, j, p);
-        p += 1;
+    ghost same: { table.controls ≡ plan.now.controls },
+    ghost low: { dest < 16 },
+}
+
+impl Course {
+    ghost use Rattle.summary.specs.Cells.{size};
+    ghost use Rattle.run.specs.Filled.{Filled, Fresh};
+
+    // Fills the exits from the thread's table: for each control and symbol, the least steps until the symbol is gone at each control, and
+    // the least to the destination of the end.
+    pub fn fill(&mut self, table: &[u16], dest: usize)
+        requires room { (size self.old.plan.controls ≤ length table.now) × (dest < 16) }
+        requires fresh { Fresh self.old.exits }
+        ensures filled { Filled table.now self.new.plan dest self.new.exits }
+        ensures plan { self.new.plan ≡ self.old.plan }
+    {
+        let cells = Table {
+            cells: table,
+            controls: self.plan.controls,
+        };
+        let source = Source {
+            table: cells,
+            plan: &self.plan,
+            dest,
+        };
+        source.fill(&mut self.exits);
     }
 }
 
-// The exits from control p of turn j.
-fn fill_place(
-    exits: &mut [u16; EXITS],
-    table: &[u16],
-    plan: &[u8; PLAN_SIZE],
-    n: usize,
-    dest: usize,
-    j: usize,
-    p: usize,
-)
-    requires fact_1 { InRange plan.now }
-    requires fact_2 { (size (controls_in plan.now) ≤ length table.now) × (n ≤ 2) × (dest < 16) × (j ≤ n) × (p < controls_in plan.now) }
-    requires fact_3 { FilledTo table.now plan.now n dest (row_of (8 * j + p) 0) exits.old }
-    ensures { FilledTo table.now plan.now n dest (row_of (8 * j + p) 17) exits.new }
-{
-    let mut symbol = 0;
-    while symbol < 17 {
-        fill_row(exits, table, plan, n, dest, j, p, symbol);
-        symbol += 1;
-    }
-}
+// Turn, control and symbol of a row stay three numbers: their ranges are the plan's, and each function adds one of them.
+impl Source<'_, '_> {
+    ghost use Rattle.run.specs.Exits.{row_of};
+    ghost use Rattle.run.specs.Filled.{stretch_in, FilledTo, Extends, Filled, Fresh};
 
-// The row of control p of turn j and a symbol.
-fn fill_row(
-    exits: &mut [u16; EXITS],
-    table: &[u16],
-    plan: &[u8; PLAN_SIZE],
-    n: usize,
-    dest: usize,
-    j: usize,
-    p: usize,
-    symbol: usize,
-)
-    requires fact_1 { InRange plan.now }
-    requires fact_2 { (size (controls_in plan.now) ≤ length table.now) × (n ≤ 2) × (dest < 16) × (j ≤ n) × (p < controls_in plan.now)
-        × (symbol ≤ 16) }
-    requires fact_3 { FilledTo table.now plan.now n dest (row_of (8 * j + p) symbol) exits.old }
-    ensures { FilledTo table.now plan.now n dest (row_of (8 * j + p) (symbol + 1)) exits.new }
-{
-    let mut k = j;
-    while k <= n {
-        fill_gone(exits, table, plan, j, p, symbol, k);
-        k += 1;
+    // All exits.
+    fn fill(self, exits: &mut [u16; EXITS])
+        requires { Fresh exits.old }
+        ensures { Filled self.entry.table.cells.now self.entry.plan.now self.entry.dest exits.new }
+    {
+        for j in 0..self.plan.n + 1 {
+            self.fill_turn(exits, j);
+        }
     }
-    let controls = byte(plan, 7);
-    let last = lane_before(plan, n);
-    exits[((8 * j + p) * 17 + symbol) * 25 + 24] = entry_at(
-        table,
-        controls,
-        n - j,
-        p,
-        symbol,
-        dest,
-        last,
-    );
-}
 
-// The cells of such a row where the symbol is gone in turn k, whatever the number of turn ends and the end.
-fn fill_gone(
-    exits: &mut [u16; EXITS],
-    table: &[u16],
-    plan: &[u8; PLAN_SIZE],
-    j: usize,
-    p: usize,
-    symbol: usize,
-    k: usize,
-)
-    requires fact_1 { InRange plan.now }
-    requires fact_2 { (size (controls_in plan.now) ≤ length table.now) × (j ≤ k) × (k ≤ 2) × (p < controls_in plan.now) × (symbol ≤ 16) }
-    ensures { Extends table.now plan.now k (row_of (8 * j + p) symbol + 8 * k) (row_of (8 * j + p) symbol + 8 * (k + 1))
-        exits.old exits.new }
-{
-    let controls = byte(plan, 7);
-    let lane = lane_before(plan, k);
-    let at = ((8 * j + p) * 17 + symbol) * 25 + 8 * k;
-    let mut q = 0;
-    while q < controls {
-        exits[at + q] = entry_at(table, controls, k - j, p, symbol, gone_at(q), lane);
-        q += 1;
+    // The exits from the controls of turn j.
+    fn fill_turn(self, exits: &mut [u16; EXITS], j: usize)
+        requires turn { j ≤ self.plan.now.n }
+        requires before { FilledTo self.table.cells.now self.plan.now self.dest (row_of (8 * j) 0) exits.old }
+        ensures { FilledTo self.entry.table.cells.now self.entry.plan.now self.entry.dest (row_of (8 * (j + 1)) 0) exits.new }
+    {
+        for p in 0..self.plan.controls {
+            self.fill_place(exits, j, p);
+        }
     }
-}
 
-// The lane of the turn end before the thread's own turn j. Before turn 0 there is none, and any number will do.
-fn lane_before(plan: &[u8; PLAN_SIZE], j: usize) -> usize
-    requires fact_1 { InRange plan.now }
-    requires fact_2 { j ≤ 2 }
-    ensures { LaneTo (ends_in plan.now) j result × (result < 16) }
-{
-    if j == 0 {
-        return 0;
+    // The exits from control p of turn j.
+    fn fill_place(self, exits: &mut [u16; EXITS], j: usize, p: usize)
+        requires place { (j ≤ self.plan.now.n) × (p < self.plan.now.controls) }
+        requires before { FilledTo self.table.cells.now self.plan.now self.dest (row_of (8 * j + p) 0) exits.old }
+        ensures { FilledTo self.entry.table.cells.now self.entry.plan.now self.entry.dest (row_of (8 * j + p) 17) exits.new }
+    {
+        for symbol in 0..17 {
+            self.fill_row(exits, j, p, symbol);
+        }
     }
-    byte(plan, 2 * j) * 4 + byte(plan, 2 * j + 1)
+
+    // The row of control p of turn j and a symbol.
+    fn fill_row(self, exits: &mut [u16; EXITS], j: usize, p: usize, symbol: usize)
+        requires row { (j ≤ self.plan.now.n) × (p < self.plan.now.controls) × (symbol ≤ 16) }
+        requires before { FilledTo self.table.cells.now self.plan.now self.dest (row_of (8 * j + p) symbol) exits.old }
+        ensures { FilledTo self.entry.table.cells.now self.entry.plan.now self.entry.dest (row_of (8 * j + p) (symbol + 1)) exits.new }
+    {
+        let n = self.plan.n;
+        for k in j..n + 1 {
+            self.fill_gone(exits, j, p, symbol, k);
+        }
+        exits[((8 * j + p) * 17 + symbol) * 25 + 24] = self.stretch(j, p, symbol, n, self.dest);
+    }
+
+    // The cells of such a row where the symbol is gone in turn k.
+    fn fill_gone(self, exits: &mut [u16; EXITS], j: usize, p: usize, symbol: usize, k: usize)
+        requires { (j ≤ k) × (k ≤ self.plan.now.n) × (p < self.plan.now.controls) × (symbol ≤ 16) }
+        ensures { Extends self.entry.table.cells.now self.entry.plan.now (row_of (8 * j + p) symbol + 8 * k)
+            (row_of (8 * j + p) symbol + 8 * (k + 1)) exits.old exits.new }
+    {
+        let at = ((8 * j + p) * 17 + symbol) * 25 + 8 * k;
+        for q in 0..self.plan.controls {
+            exits[at + q] = self.stretch(j, p, symbol, k, gone_at(q));
+        }
+    }
+
+    // What the table has for the stretches from control p of turn j with a symbol on top to destination d of turn k.
+    fn stretch(self, j: usize, p: usize, symbol: usize, k: usize, d: usize) -> u16
+        requires { (j ≤ k) × (k ≤ self.plan.now.n) × (p < self.plan.now.controls) × (symbol ≤ 16) × (d < 16) }
+        ensures { result ≡ stretch_in self.entry.table.cells.now self.entry.plan.now j p symbol k d }
+    {
+        self.table
+            .entry(k - j, p, symbol, d, self.plan.lane_before(k))
+    }
 }

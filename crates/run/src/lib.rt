@@ -1,6 +1,7 @@
 // One thread's steps along a line: of its shortest runs, the first.
 #![tactic(auto)]
 
+mod course;
 mod exits;
 mod head;
 pub mod levels;

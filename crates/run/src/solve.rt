@@ -1,47 +1,34 @@
 // The table of a thread: what all lines share is solved once, and the rest for a line.
-ghost use Rattle.std.specs.Prelude.{true, ◌≡◌, ℕ, ◌≤◌, ◌<◌, length};
-ghost use Rattle.model.specs.Fits.{TopFits, ThreadFits};
-ghost use Rattle.summary.specs.Cells.{controls_of, size};
-ghost use Rattle.summary.specs.Control.{TurnEnd, Inside, Summed};
-ghost use Rattle.run.specs.Base.{Base, ExactFor};
+ghost use Rattle.std.specs.Prelude.{◌≡◌, ◌<◌};
+ghost use Rattle.run.specs.Base.{ExactFor, SideBase, SideRoom};
 
-use model::{Thread, Top};
-use summary::turns::{close_first, close_plain, close_second};
+use crate::plan::Switch;
+use costs::side::Side;
 
-// Solves what all lines with n turn ends share in the table of a thread and a top.
-pub fn base(table: &mut [u16], g: usize, n: usize, top: Top, th: Thread)
-    requires { (size (controls_of th g) ≤ length table.old) × (1 ≤ g) × (g ≤ 4) × TopFits top × ThreadFits g th }
-    ensures { Base th top g n table.new }
+// Solves what all lines share in the table of a thread. That the table has room is a clause, here and below: a struct that lends it would
+// promise in each call that its `&mut` is still the caller's.
+pub fn base(table: &mut [u16], side: &Side)
+    requires { SideRoom side.now table.old }
+    ensures { SideBase side.now table.new }
 {
-    close_plain(table, g, top, th);
-    if n == 0 {
+    side.system.close_plain(table);
+    if side.n == 0 {
         return;
     }
-    close_first(table, g, top, th);
+    side.system.close_first(table);
 }
 
-// Solves the rest for the lines whose first turn end is (o, i), unless that is known to be so.
-pub fn for_line(
-    table: &mut [u16],
-    g: usize,
-    n: usize,
-    o: usize,
-    i: usize,
-    known: bool,
-    top: Top,
-    th: Thread,
-)
-    requires { (size (controls_of th g) ≤ length table.old) × (1 ≤ g) × (g ≤ 4) × (n ≤ 2) × (o < g) × (i < g) × TopFits top × ThreadFits g th
-        × Base th top g n table.old × (known ≡ true → n ≡ 2 → ExactFor th top g o i table.old) }
-    ensures base { Base th top g n table.new }
-    ensures exact { (ends : ℕ → TurnEnd) → Inside g n ends → (ends 0).leave ≡ o → (ends 0).enter ≡ i
-        → Summed th top g n ends table.new }
+// Solves the rest for the lines with a first turn end.
+pub(crate) fn for_line(table: &mut [u16], side: &Side, first: Switch)
+    requires room { SideRoom side.now table.old }
+    requires inside { (first.leave < side.now.system.g) × (first.enter < side.now.system.g) }
+    requires base { SideBase side.now table.old }
+    ensures base { SideBase side.now table.new }
+    ensures exact { side.now.n ≡ 2
+        → ExactFor side.now.system.th side.now.system.top side.now.system.g first.leave first.enter table.new }
 {
-    if n != 2 {
+    if side.n != 2 {
         return;
     }
-    if known {
-        return;
-    }
-    close_second(table, g, o, i, top, th);
+    side.system.close_second(table, first.leave, first.enter);
 }

@@ -1,26 +1,24 @@
 // One thread's steps along a line: its table is solved for the line's turn ends, its exits are read off it, and the writers go on from
 // the thread's first symbol on an empty stack.
-ghost use Rattle.std.specs.Prelude.{true, [], ◌∷◌, ◌≡◌, suc, ◌*◌, ◌^◌, ◌≤◌, ◌<◌, length};
+ghost use Rattle.std.specs.Prelude.{true, [], ◌∷◌, ◌≡◌, ◌≤◌};
 ghost use Rattle.model.specs.First.{First};
-ghost use Rattle.model.specs.Fits.{TopFits, ThreadFits};
-ghost use Rattle.model.specs.Lines.{digits};
 ghost use Rattle.model.specs.Schedules.{most_steps, Stored};
 ghost use Rattle.costs.specs.Cost.{RunAlong};
-ghost use Rattle.summary.specs.Cells.{controls_of, size};
-ghost use Rattle.run.specs.Base.{Base, SolvedFor};
+ghost use Rattle.costs.specs.Lanes.{Value, line_of};
+ghost use Rattle.run.specs.Base.{SideBase, SideRoom, SideSolved};
 ghost use Rattle.run.specs.Chosen.{ChosenFor, Prepared, Starts};
 ghost use Rattle.run.specs.Exits.{Togo, Setting, Runs};
-ghost use Rattle.run.specs.Levels.{levels_size, from, HeadFits};
-ghost use Rattle.run.specs.Plan.{plan_size, controls_in, InRange};
+ghost use Rattle.run.specs.Levels.{from, HeadFits};
 
-use crate::exits::fill;
+use crate::course::{Course, EXITS};
 use crate::head::Head;
-use crate::levels::{EXITS, LEVELS, SYMBOLS, ground};
-use crate::plan::{PLAN_SIZE, make, wide};
+use crate::levels::Levels;
+use crate::plan::Plan;
 use crate::solve::for_line;
 use crate::stretch::stretch;
-use costs::parts::{first_state, state_at, turn_of};
-use model::{MOST_BYTES, Thread, ThreadId, Top};
+use costs::parts::turn_of;
+use costs::side::Side;
+use model::MOST_BYTES;
 use summary::{UNREACHED, stays_of};
 
 // Where a thread starts along a line, and the destination of its end.
@@ -30,125 +28,86 @@ pub struct Start {
     pub dest: usize,
 }
 
-// Writes the first of a thread's shortest runs along the full line whose value is v, with n turn ends, to a top: they have `count` steps.
-// The table may be known to be solved for the line's first turn end.
+// Writes the first of a thread's shortest runs along the full line whose value is v, to its top: they have `count` steps. The table may be
+// known to be solved for the line's first turn end.
 pub fn steps(
     table: &mut [u16],
-    th: Thread,
-    top: Top,
-    g: usize,
-    n: usize,
-    id: ThreadId,
-    start: usize,
+    side: &Side,
     v: usize,
     count: usize,
     known: bool,
-    levels: &mut [u16; LEVELS],
+    levels: &mut Levels,
     out: &mut [u8; MOST_BYTES],
 )
-    requires fact_1 { ChosenFor th top g n id start v count }
-    requires fact_2 { length levels.old ≡ levels_size }
-    requires fact_3 { (size (controls_of th g) ≤ length table.old) × Base th top g n table.old }
-    requires fact_4 { (known ≡ true → SolvedFor th top id g n v table.old) }
-    ensures base { Base th top g n table.new }
-    ensures solved { SolvedFor th top id g n v table.new }
-    ensures size { length levels.new ≡ levels_size }
-    ensures steps { Stored (First (RunAlong th top id n start (digits g (2 * suc n) v)) count) count 0 out.old out.new }
+    requires chosen { ChosenFor side.now v count }
+    requires room { SideRoom side.now table.old }
+    requires base { SideBase side.now table.old }
+    requires known { known ≡ true → SideSolved side.now v table.old }
+    ensures base { SideBase side.now table.new }
+    ensures solved { SideSolved side.now v table.new }
+    ensures steps { Stored (First (RunAlong side.now.system.th side.now.system.top side.now.id side.now.n side.now.start (line_of side.now v)) count)
+        count 0 out.old out.new }
 {
-    let mut plan = [0u8; PLAN_SIZE];
-    prepare(table, &mut plan, th, top, g, n, id, v, known);
-    let from = start_of(top, g, n, id, start, v, th.first.0 as usize);
-    let mut exits = [UNREACHED; EXITS];
-    fill(&mut exits, table, &plan, n, from.dest);
-    let head = from.head;
-    from_head(&exits, &plan, levels, head, count, out);
+    let mut course = Course {
+        plan: prepare(table, side, v, known),
+        exits: [UNREACHED; EXITS],
+    };
+    let from = start_of(side, v);
+    course.fill(table, from.dest);
+    from_head(&course, levels, from.head, count, out);
 }
 
-// The plan of a thread along a line, and the table solved for the line's turn ends and a top.
-fn prepare(
-    table: &mut [u16],
-    plan: &mut [u8],
-    th: Thread,
-    top: Top,
-    g: usize,
-    n: usize,
-    id: ThreadId,
-    v: usize,
-    known: bool,
-)
-    requires fact_1 { (size (controls_of th g) ≤ length table.old) × (length plan.old ≡ plan_size) × Base th top g n table.old }
-    requires fact_2 { (1 ≤ g) × (g ≤ 4) × (n ≤ 2) × (v < g ^ (2 * suc n)) × TopFits top × ThreadFits g th }
-    requires fact_3 { (known ≡ true → SolvedFor th top id g n v table.old) }
-    ensures base { Base th top g n table.new }
-    ensures solved { SolvedFor th top id g n v table.new }
-    ensures prepared { Prepared th top id g n (digits g (2 * suc n) v) table.new plan.new }
+// The plan of a thread along a line, and the table solved for the line's turn ends.
+fn prepare(table: &mut [u16], side: &Side, v: usize, known: bool) -> Plan
+    requires value { Value side.now v }
+    requires room { SideRoom side.now table.old }
+    requires base { SideBase side.now table.old }
+    requires known { known ≡ true → SideSolved side.now v table.old }
+    ensures base { SideBase side.now table.new }
+    ensures solved { SideSolved side.now v table.new }
+    ensures prepared { Prepared side.now v table.new result }
 {
-    make(plan, th, g, n, id, v);
-    let o = wide(plan[2]);
-    let i = wide(plan[3]);
-    for_line(table, g, n, o, i, known, top, th);
+    let plan = Plan::along(side, v);
+    if known {
+        return plan;
+    }
+    for_line(table, side, plan.ends[0]);
+    plan
 }
 
 // From the state in which the thread's first turn starts, to the end of its last turn with something on its stack, be it the
 // floor, under a top that will do.
-fn start_of(
-    top: Top,
-    g: usize,
-    n: usize,
-    id: ThreadId,
-    start: usize,
-    v: usize,
-    symbol: usize,
-) -> Start
-    requires { (1 ≤ g) × (g ≤ 4) × (n ≤ 2) × (start < g) × (v < g ^ (2 * suc n)) }
-    ensures { Starts top id n start (digits g (2 * suc n) v) symbol g result }
+fn start_of(side: &Side, v: usize) -> Start
+    requires { Value side.now v }
+    ensures { Starts side.now v result }
 {
-    let len = 2 * n + 2;
-    let from = first_state(g, len, v, id, start);
-    let to = state_at(g, len, v, turn_of(id, n));
+    let line = side.line(v);
     let head = Head {
         passed: 0,
-        ends: n,
-        control: from,
-        symbol,
+        control: line.first_state(side.id, side.start),
+        symbol: side.system.th.first.0 as usize,
         under: 0,
     };
     Start {
         head,
-        dest: stays_of(top) + to,
+        dest: stays_of(side.system.top) + line.state(turn_of(side.id, side.n)),
     }
 }
 
 // Writes the first of the shortest runs from a head with nothing under its symbol.
 fn from_head(
-    exits: &[u16; EXITS],
-    plan: &[u8; PLAN_SIZE],
-    levels: &mut [u16; LEVELS],
+    course: &Course,
+    levels: &mut Levels,
     head: Head,
     count: usize,
     out: &mut [u8; MOST_BYTES],
 )
-    requires fact_1 { InRange plan.now }
-    requires fact_2 { HeadFits (controls_in plan.now) head }
-    requires fact_3 { (head.under ≡ 0) × (count ≤ most_steps) × (length levels.old ≡ levels_size) }
-    ensures steps { (w : Setting exits.now plan.now) → head.ends ≡ w.n → Togo (Runs w (from head) (head.symbol ∷ [])) count
+    requires fits { HeadFits course.now.plan head }
+    requires room { (head.under ≡ 0) × (count ≤ most_steps) }
+    ensures { (w : Setting course.now.exits course.now.plan) → Togo (Runs w (from head) (head.symbol ∷ [])) count
         → Stored (First (Runs w (from head) (head.symbol ∷ [])) count) count 0 out.old out.new }
-    ensures size { length levels.new ≡ levels_size }
 {
-    ground(exits, levels);
-    let mut symbols = [0u8; SYMBOLS];
-    stretch(
-        exits,
-        plan,
-        levels,
-        &mut symbols,
-        head.passed,
-        head.ends,
-        head.control,
-        head.symbol,
-        head.under,
-        count,
-        out,
-        0,
-    );
+    levels.ground(course);
+    let mut now = head;
+    stretch(course, levels, &mut now, count, out, 0);
 }

@@ -1,54 +1,35 @@
 // Tight steps: those after which one step fewer is left to the end.
 ghost use Rattle.std.specs.Prelude.{ℕ, ◌≤◌, ◌<◌};
 ghost use Rattle.model.specs.Fits.{RightFits};
-ghost use Rattle.run.specs.Levels.{Tight, HeadFits, Decides};
-ghost use Rattle.run.specs.Plan.{controls_in, rules_in, rule_in, InRange};
+ghost use Rattle.run.specs.Levels.{Tight, HeadFits, Decides, FirstTight};
 
+use crate::course::Course;
 use crate::head::Head;
-use crate::levels::{EXITS, LEVELS, after_step};
-use crate::plan::{PLAN_SIZE, byte, rule_of};
+use crate::levels::Levels;
 use model::Rule;
 
-// The first rule that is a tight step; the number of rules where none is.
-pub fn first_rule(
-    exits: &[u16; EXITS],
-    plan: &[u8; PLAN_SIZE],
-    levels: &[u16; LEVELS],
-    head: Head,
-    count: usize,
-) -> usize
-    requires fact_1 { InRange plan.now }
-    requires fact_2 { HeadFits (controls_in plan.now) head }
-    requires fact_3 { (head.under < 4096) × (0 < count) }
-    ensures tight { result < rules_in plan.now
-        → Tight exits.now levels.now head count (rule_in plan.now result) }
-    ensures none { ((i : ℕ) → i < result → Tight exits.now levels.now head count (rule_in plan.now i) → ⊥)
-        × (result ≤ rules_in plan.now) }
+// The first rule that is a tight step, if one is.
+pub fn first_rule(course: &Course, levels: &Levels, head: Head, count: usize) -> Option<usize>
+    requires fits { HeadFits course.now.plan head }
+    requires low { (head.under < 4096) × (0 < count) }
+    ensures { FirstTight course.now.exits course.now.plan levels.now.counts head count result }
 {
-    let rules = byte(plan, 6);
-    let mut r = 0;
-    while r < rules {
-        let rule = rule_of(plan, r);
-        if suits(exits, levels, head, count, rule) {
-            return r;
+    for r in 0..course.plan.count {
+        if suits(course, levels, head, count, course.plan.rule(r)) {
+            return Some(r);
         }
-        r += 1;
     }
-    rules
+    None
 }
 
 // Whether a rule is a tight step.
-fn suits(exits: &[u16; EXITS], levels: &[u16; LEVELS], head: Head, count: usize, rule: Rule) -> bool
+fn suits(course: &Course, levels: &Levels, head: Head, count: usize, rule: Rule) -> bool
     requires { (head.passed ≤ 2) × (head.under < 4096) × (0 < count) × (rule.after.0 < 8) × RightFits rule.right }
-    ensures { Decides result (Tight exits.now levels.now head count rule) }
+    ensures { Decides result (Tight course.now.exits levels.now.counts head count rule) }
 {
-    if rule.before.0 as usize != head.control % 4 {
-        return false;
-    }
-    if rule.symbol.0 as usize != head.symbol {
+    if rule.before.0 as usize != head.control % 4 || rule.symbol.0 as usize != head.symbol {
         return false;
     }
     let x = 8 * head.passed + rule.after.0 as usize;
-    let right = rule.right;
-    after_step(exits, levels, head.under, x, right) == count - 1
+    levels.after_step(course, head.under, x, rule.right) == count - 1
 }

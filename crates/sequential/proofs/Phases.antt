@@ -11,7 +11,7 @@ use Rattle.model.specs.declared.Model.{Model}
 use Rattle.model.specs.declared.Thread.{Thread}
 use Rattle.model.specs.declared.ThreadId.{ThreadId}
 use Rattle.model.specs.declared.ThreadId.TheVariants.{A, B}
-use Rattle.model.specs.declared.Top.TheVariants.{Any}
+use Rattle.std.specs.Prelude.{None}
 use Rattle.model.specs.Fits.{Fits}
 use Rattle.model.specs.Lines.{States}
 use Rattle.model.specs.Rules.{rule_at, put, held_at}
@@ -51,15 +51,15 @@ back B = refl
 
 module _ {m : Model} {id : ThreadId} where
   -- A thread's view of a line is its turns in a row: from a turn of its own on ..
-  own : {t q a : ℕ} {held : Bool} {w line qs es : List ℕ} {ss : List Step} → View m id Any t held q w (a ∷ line) ss → owner_of t ≡ id
-      → ((v : List ℕ) (zs : List Step) → View m id Any (suc t) false a v line zs → Phase (thread_of id m) qs v es)
+  own : {t q a : ℕ} {held : Bool} {w line qs es : List ℕ} {ss : List Step} → View m id None t held q w (a ∷ line) ss → owner_of t ≡ id
+      → ((v : List ℕ) (zs : List Step) → View m id None (suc t) false a v line zs → Phase (thread_of id m) qs v es)
       → Phase (thread_of id m) (q ∷ qs) w (a ∷ es)
   own (skip h v) e go = absurd (apart id (sym e ∙ h))
   own (end h v) e go = pass (go _ _ v)
   own (move h k v) e go = act ((applies_iff _ _ _ _).0 k) (own v e go)
 
   -- .. and from one of the other's.
-  others : (line : List ℕ) {t q : ℕ} {w : List ℕ} {ss : List Step} → View m id Any t false q w line ss → owner_of t ≡ other id
+  others : (line : List ℕ) {t q : ℕ} {w : List ℕ} {ss : List Step} → View m id None t false q w line ss → owner_of t ≡ other id
       → Phase (thread_of id m) (firsts line) w (round_ends line)
   others [] v e = done
   others (o ∷ []) v e = done
@@ -69,8 +69,8 @@ module _ {m : Model} {id : ThreadId} where
   -- Its turns in a row are a view of a line where none of its rules is held: from a turn of its own on ..
   own_view : {t q a : ℕ} {w line qs es : List ℕ} → ((r : ℕ) → held_at (thread_of id m) r ≡ false)
       → Phase (thread_of id m) (q ∷ qs) w (a ∷ es) → owner_of t ≡ id
-      → ((v : List ℕ) → Phase (thread_of id m) qs v es → (zs : List Step) × View m id Any (suc t) false a v line zs)
-      → (ss : List Step) × View m id Any t false q w (a ∷ line) ss
+      → ((v : List ℕ) → Phase (thread_of id m) qs v es → (zs : List Step) × View m id None (suc t) false a v line zs)
+      → (ss : List Step) × View m id None t false q w (a ∷ line) ss
   own_view free (pass p) e go = let v = go _ p in (v.0, end e v.1)
   own_view {t} free (act {r = r} h p) e go =
       let v = own_view free p e go in
@@ -78,7 +78,7 @@ module _ {m : Model} {id : ThreadId} where
 
   -- .. and from one of the other's.
   others_view : (line : List ℕ) {t q : ℕ} {w : List ℕ} → ((r : ℕ) → held_at (thread_of id m) r ≡ false)
-      → Phase (thread_of id m) (firsts line) w (round_ends line) → owner_of t ≡ other id → (ss : List Step) × View m id Any t false q w line ss
+      → Phase (thread_of id m) (firsts line) w (round_ends line) → owner_of t ≡ other id → (ss : List Step) × View m id None t false q w line ss
   others_view [] free p e = ([], stop tt)
   others_view (o ∷ []) free p e = ([], skip e (stop tt))
   others_view (o ∷ a ∷ line) free p e =

@@ -1,21 +1,19 @@
 -- The text of a line part by part, and how long each part is: a state has K+1 bytes, and a symbol one more than its digits.
-use mathlib.Core.List.{List, [], ◌∷◌, ◌++◌, map, map-append, append-nil}
+use mathlib.Core.List.{[], ◌∷◌, ◌++◌, append-nil}
 use mathlib.Core.Path.{◌≡◌, refl}
-use Prim.Native.Nat.{ℕ, suc, ◌+◌, ◌*◌, ◌≤◌, ◌<◌}
-use native.Mathlib.Numerals.{add-one}
+use Prim.Native.Nat.{ℕ, ◌+◌, ◌*◌, ◌≤◌, ◌<◌}
 use native.Mathlib.Omega.{arith}
-use lib.ListN.{length, length-append, length-map, get_or, set, take}
-use lib.Seq.{length-take-le, take-suc}
+use lib.ListN.{length, length-append, length-map}
+use lib.Seq.{length-take-le}
 use Rattle.model.specs.declared.Right.{Right}
 use Rattle.model.specs.declared.Right.TheVariants.{Remove, Swap, Push}
 use Rattle.model.specs.Fits.{RightBelow}
 use Rattle.model.specs.Rules.{put}
 use Rattle.text.specs.Text.{decimal}
-use Rattle.text.proofs.Numbers.{digits_2}
-use Rattle.writer.specs.Put.{Put}
-use Rattle.writer.proofs.Puts.{◌then◌}
-use Rattle.sequential.specs.declared.Transition.{Transition}
-use Rattle.sequential.specs.Parts.{state_of, rule_in, Quad, Shows}
+use Rattle.text.proofs.Numbers.{digits_2, digits_4}
+use Rattle.sequential.specs.declared.state.State as held
+use Rattle.sequential.specs.declared.state.Transition.{Transition}
+use Rattle.sequential.specs.Parts.{state_of, rule_in}
 use Rattle.sequential.specs.Text.{state_text, symbols_text, rule_text}
 
 -- One symbol is a blank and its digits ..
@@ -50,34 +48,19 @@ short_new (Swap a) h = omega (arith, length_one a.0, digits_2 a.0 (omega arith))
 short_new (Push a b) h =
     omega (arith, length_two a.0 b.0, digits_2 a.0 (omega (arith, h.0)), digits_2 b.0 (omega (arith, h.1)))
 
--- The digits of a state.
-state_digits : (k : ℕ) (digits : List ℕ) → 0 < length digits → state_text (state_of k digits) ≡ map (λ x. 48 + x) (take (suc k) digits)
-unfolding state_text
-state_digits k [] h = absurd (omega arith)
-state_digits k (x ∷ digits) h = refl
+-- Any byte has at most four.
+pub byte_few : {s n : ℕ} → s < 256 → n ≡ length (decimal s) → n ≤ 4
+byte_few {s} h e = omega (arith, digits_4 s (omega arith))
 
--- K+1 bytes.
-pub length_state : (k : ℕ) (digits : List ℕ) → k ≤ 3 → Quad digits → length (state_text (state_of k digits)) ≡ k + 1
-length_state k digits h q =
-    rw (state_digits k digits (omega (arith, q.0)), length-map, length-take-le (suc k) digits (omega (arith, q.0))) (omega arith)
+-- A state has a byte for its counter and one for each copy.
+pub length_state : (s : held.State) → length s.copies ≡ 3 → length (state_text (state_of s)) ≡ s.rounds + 1
+unfolding state_text
+length_state s e =
+    rw (length-map, length-take-le s.rounds s.copies (omega (arith, s.few))) (omega arith)
 
 -- A line.
-pub length_rule : (k : ℕ) (r : Transition) → Shows k r
-    → length (rule_text (rule_in k r)) ≡ 2 * k + 5 + length (decimal r.top) + length (symbols_text (put r.new []))
+pub length_rule : (r : Transition) → length r.from.copies ≡ 3 → length r.to.copies ≡ 3
+    → length (rule_text (rule_in r)) ≡ 2 * r.from.rounds + 5 + length (decimal r.top) + length (symbols_text (put r.new []))
 unfolding rule_text
-length_rule k r s =
-    simp length-append
-    (omega (arith, length_state k r.from s.rounds s.before, length_state k r.to s.rounds s.after, length_one r.top))
-
--- What is put of a state by a loop over its digits: the next one ..
-pub digits-next : {l m : List ℕ} (digits : List ℕ) {at i : ℕ} → i < length digits
-    → Put l m at (at + i) (map (λ x. 48 + x) (take i digits))
-    → Put l (set m (at + i) (48 + get_or digits i 0)) at (at + (i + 1)) (map (λ x. 48 + x) (take (i + 1) digits))
-digits-next digits {at} {i} h p =
-    rw (add-one i, take-suc digits i 0 h, map-append (λ x. 48 + x) (take i digits) (get_or digits i 0 ∷ []))
-    (p then record { stored = refl; ends = omega arith })
-
--- .. and then all.
-pub digits_end : {l m : List ℕ} (k : ℕ) (digits : List ℕ) {at i : ℕ} → Quad digits → i ≡ k + 1
-    → Put l m at (at + i) (map (λ x. 48 + x) (take i digits)) → Put l m at (at + i) (state_text (state_of k digits))
-digits_end k digits q e p = rw (state_digits k digits (omega (arith, q.0)), ← add-one k, ← e) p
+length_rule r e f =
+    simp length-append (omega (arith, length_state r.from e, length_state r.to f, length_one r.top, r.same))

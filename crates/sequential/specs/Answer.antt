@@ -2,20 +2,18 @@
 use Rattle.std.specs.Prelude.{Bool, true, false, ◌&&◌, List, [], ◌∷◌, ℕ, zero, suc, leb, length}
 use Rattle.model.specs.declared.Model.{Model}
 use Rattle.model.specs.declared.Thread.{Thread}
-use Rattle.model.specs.declared.Top.{Top}
-use Rattle.model.specs.declared.Top.TheVariants.{Any, Named}
+use Rattle.model.specs.Tops.{Top}
+use Rattle.std.specs.Prelude.{None, Some}
 use Rattle.model.specs.Bits.{all_zero}
-use Rattle.model.specs.Results.{refuse, first_of, store_by}
+use Rattle.model.specs.Results.{Result, refused, accepted, refuse, first_of, store_by}
 use Rattle.model.specs.Valid.{fault_of}
-use Rattle.sequential.specs.declared.Printed.{Printed}
-use Rattle.sequential.specs.declared.Printed.TheVariants.{Length, Refused}
 use Rattle.sequential.specs.Listed.{rules}
 use Rattle.sequential.specs.Text.{text_of}
 
 -- No top is named.
 unfoldable pub unnamed : Top → Bool
-unnamed Any = true
-unnamed (Named s) = false
+unnamed None = true
+unnamed (Some s) = false
 
 -- A thread without held rules and a named top.
 unfoldable pub plain_thread : Thread → Bool
@@ -38,12 +36,12 @@ unfoldable pub print_refusal : Model → ℕ → ℕ
 print_refusal m size = first_of (model_refusal m ∷ refuse 7 (leb (length (text_for m)) size) ∷ [])
 
 -- The answer, by the refusal that is due: its number, or with none the length of the text.
-abbrev pub printed_by : ℕ → List ℕ → Printed
-printed_by zero text = Length (length text)
-printed_by (suc n) text = Refused (suc n)
+abbrev pub printed_by : ℕ → List ℕ → Result ℕ
+printed_by zero text = accepted (length text)
+printed_by (suc n) text = refused (suc n)
 
 -- The answer for a model, by the length of the store.
-unfoldable pub printed_of : Model → ℕ → Printed
+unfoldable pub printed_of : Model → ℕ → Result ℕ
 printed_of m size = printed_by (print_refusal m size) (text_for m)
 
 -- What the store holds after the call.

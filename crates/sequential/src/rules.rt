@@ -4,149 +4,141 @@ ghost use Rattle.model.specs.Fits.{Fits};
 ghost use Rattle.model.specs.Lines.{digits};
 ghost use Rattle.sequential.specs.Allowed.{at, closing};
 ghost use Rattle.sequential.specs.Listed.{pass_of, begin_of, close_of, holder_of, rules_at, rules_of, rules_with};
-ghost use Rattle.sequential.specs.Parts.{Counted, limit, state_of, Digits};
+ghost use Rattle.sequential.specs.Parts.{state_of};
 ghost use Rattle.sequential.specs.Text.{text_of};
 
-use crate::{Transition, line, threads};
-use costs::parts;
+use crate::sink::Sink;
+use crate::state::{State, Transition};
+use crate::threads::{self, FROM_B};
+use costs::parts::{self, Line};
 use model::{Model, Right, Symbol, Thread};
 
-// Puts those at a counter, for all copies below G, or only counts their bytes, as all calls here do.
-pub fn put_counter(store: &mut [u8], at: usize, m: Model, counter: u8, write: bool) -> usize
-    requires fact_1 { Fits m }
-    requires fact_2 { (1 ≤ counter) × (counter ≤ m.k + 1) }
-    requires fact_3 { at + length (text_of (rules_with m counter)) ≤ limit write (length store.old) }
-    ensures { Counted write store.old store.new at result (text_of (rules_with m counter)) }
+// The marks at the bottom of A's and of B's part of the stack, the check symbol and the helper, and how many symbols there are. Symbols are numbers,
+// as the text prints them and `closing` and `rules_at` speak of them.
+const MARK_A: u8 = 32;
+
+const MARK_B: u8 = 33;
+
+const CHECK: u8 = 34;
+
+const HELPER: u8 = 35;
+
+const SYMBOLS: u8 = 36;
+
+// Puts the rules at a counter, for all copies below G. The sink, the model and the state come one by one, here and in `threads`: the sink is lent,
+// and a struct with it would promise its `&mut` again. So does a state's top, which runs through all symbols at one state.
+pub fn put_counter<S: Sink>(out: &mut S, m: Model, counter: u8)
+    requires fits { Fits m }
+    requires counter { (1 ≤ counter) × (counter ≤ m.k + 1) }
+    requires room { length (text_of (rules_with m counter)) ≤ S.room out.old }
+    ensures { S.takes out.old out.new (text_of (rules_with m counter)) }
 {
-    let g = m.g as usize;
-    let k = m.k as usize;
-    let n = parts::power(g, k);
-    let mut next = at;
-    let mut v = 0;
-    while v < n {
-        let s = state_of(g, k, counter, v);
-        next = put_state(store, next, m, s, write);
-        v += 1;
+    let n = parts::power(m.g as usize, m.k as usize);
+    for v in 0..n {
+        put_state(out, m, state_at(m, counter, v));
     }
-    next
 }
 
-// The digits of the state with this counter and the copies whose value is v.
-fn state_of(g: usize, k: usize, counter: u8, v: usize) -> [u8; 4]
-    requires fact_1 { (1 ≤ g) × (g ≤ 4) × (k ≤ 3) × (v < g ^ k) }
-    requires fact_2 { (1 ≤ counter) × (counter ≤ k + 1) }
-    ensures state { state_of k result ≡ at counter (digits g k v) }
-    ensures fits { Digits k result }
+// The state with this counter and the copies whose value is v.
+fn state_at(m: Model, counter: u8, v: usize) -> State
+    requires fits { Fits m }
+    requires counter { (1 ≤ counter) × (counter ≤ m.k + 1) }
+    requires value { v < m.g ^ m.k }
+    ensures state { state_of result ≡ at counter (digits m.g m.k v) }
+    ensures rounds { result.rounds ≡ m.k }
 {
-    let first = parts::state_at(g, k, v, 0) as u8;
-    let second = parts::state_at(g, k, v, 1) as u8;
-    let third = parts::state_at(g, k, v, 2) as u8;
-    [counter, first, second, third]
+    let line = Line {
+        g: m.g as usize,
+        len: m.k as usize,
+        value: v,
+    };
+    let first = line.state(0) as u8;
+    let second = line.state(1) as u8;
+    let third = line.state(2) as u8;
+    State {
+        rounds: m.k,
+        counter,
+        copies: [first, second, third],
+    }
 }
 
-// Those at a state, for all tops from 0 to 35.
-fn put_state(store: &mut [u8], at: usize, m: Model, s: [u8; 4], write: bool) -> usize
-    requires fact_1 { Fits m }
-    requires fact_2 { Digits m.k s }
-    requires fact_3 { at + length (text_of (rules_of m (state_of m.k s))) ≤ limit write (length store.old) }
-    ensures { Counted write store.old store.new at result (text_of (rules_of m (state_of m.k s))) }
+// Those at a state, for all tops.
+fn put_state<S: Sink>(out: &mut S, m: Model, s: State)
+    requires fits { Fits m }
+    requires rounds { s.rounds ≡ m.k }
+    requires room { length (text_of (rules_of m (state_of s))) ≤ S.room out.old }
+    ensures { S.takes out.old out.new (text_of (rules_of m (state_of s))) }
 {
-    let mut next = at;
-    let mut top = 0;
-    while top < 36 {
-        next = put_top(store, next, m, s, top, write);
-        top += 1;
+    for top in 0..SYMBOLS {
+        put_top(out, m, s, top);
     }
-    next
 }
 
 // Those at a state and a top.
-fn put_top(store: &mut [u8], at: usize, m: Model, s: [u8; 4], top: u8, write: bool) -> usize
-    requires fact_1 { Fits m }
-    requires fact_2 { Digits m.k s × (top ≤ 35) }
-    requires fact_3 { at + length (text_of (rules_at m (state_of m.k s) top)) ≤ limit write (length store.old) }
-    ensures { Counted write store.old store.new at result (text_of (rules_at m (state_of m.k s) top)) }
+fn put_top<S: Sink>(out: &mut S, m: Model, s: State, top: u8)
+    requires fits { Fits m }
+    requires rounds { s.rounds ≡ m.k }
+    requires room { length (text_of (rules_at m (state_of s) top)) ≤ S.room out.old }
+    ensures { S.takes out.old out.new (text_of (rules_at m (state_of s) top)) }
 {
-    let k = m.k as usize;
-    if m.k < s[0] {
-        return put_close(store, at, k, s, top, write);
+    if s.counter <= m.k {
+        threads::put_taken(out, m, s, top);
+        put_pass(out, s, top);
+        put_begin(out, m.b, s, top);
+    } else {
+        put_close(out, s, top);
     }
-    let mut next = threads::put_taken(store, at, m, s, top, write);
-    next = put_pass(store, next, k, s, top, write);
-    let b = m.b;
-    put_begin(store, next, k, b, s, top, write)
 }
 
 // The rule that passes the turn on.
-fn put_pass(store: &mut [u8], at: usize, k: usize, s: [u8; 4], top: u8, write: bool) -> usize
-    requires fact_1 { Digits k s }
-    requires fact_2 { at + length (text_of (pass_of (state_of k s) top)) ≤ limit write (length store.old) }
-    ensures { Counted write store.old store.new at result (text_of (pass_of (state_of k s) top)) }
+fn put_pass<S: Sink>(out: &mut S, s: State, top: u8)
+    requires turn { s.counter ≤ s.rounds }
+    requires room { length (text_of (pass_of (state_of s) top)) ≤ S.room out.old }
+    ensures { S.takes out.old out.new (text_of (pass_of (state_of s) top)) }
 {
-    if 33 < top {
-        return at;
+    if top <= MARK_B {
+        let mut to = s;
+        to.counter += 1;
+        out.rule(Transition {
+            from: s,
+            top,
+            to,
+            new: Right::Swap(Symbol(top)),
+        });
     }
-    let mut to = s;
-    to[0] = s[0] + 1;
-    let r = Transition {
-        from: s,
-        top: top,
-        to: to,
-        new: Right::Swap(Symbol(top)),
-    };
-    line::put_rule(store, at, k, r, write)
 }
 
 // The rule by which B begins.
-fn put_begin(
-    store: &mut [u8],
-    at: usize,
-    k: usize,
-    b: Thread,
-    s: [u8; 4],
-    top: u8,
-    write: bool,
-) -> usize
-    requires fact_1 { Digits k s }
-    requires fact_2 { b.first.0 ≤ 15 }
-    requires fact_3 { at + length (text_of (begin_of b (state_of k s) top)) ≤ limit write (length store.old) }
-    ensures { Counted write store.old store.new at result (text_of (begin_of b (state_of k s) top)) }
+fn put_begin<S: Sink>(out: &mut S, b: Thread, s: State, top: u8)
+    requires first { b.first.0 ≤ 15 }
+    requires room { length (text_of (begin_of b (state_of s) top)) ≤ S.room out.old }
+    ensures { S.takes out.old out.new (text_of (begin_of b (state_of s) top)) }
 {
-    if s[0] != 1 {
-        return at;
+    if s.counter == 1 && top == HELPER {
+        out.rule(Transition {
+            from: s,
+            top,
+            to: s,
+            new: Right::Push(Symbol(FROM_B + b.first.0), Symbol(MARK_B)),
+        });
     }
-    if top != 35 {
-        return at;
-    }
-    let first = b.first.0;
-    let r = Transition {
-        from: s,
-        top: top,
-        to: s,
-        new: Right::Push(Symbol(16 + first), Symbol(33)),
-    };
-    line::put_rule(store, at, k, r, write)
 }
 
 // The rule after all turns of a thread.
-fn put_close(store: &mut [u8], at: usize, k: usize, s: [u8; 4], top: u8, write: bool) -> usize
-    requires fact_1 { Digits k s }
-    requires fact_2 { at + length (text_of (close_of (state_of k s) top)) ≤ limit write (length store.old) }
-    ensures { Counted write store.old store.new at result (text_of (close_of (state_of k s) top)) }
+fn put_close<S: Sink>(out: &mut S, s: State, top: u8)
+    requires { length (text_of (close_of (state_of s) top)) ≤ S.room out.old }
+    ensures { S.takes out.old out.new (text_of (close_of (state_of s) top)) }
 {
-    if 33 < top {
-        return at;
+    if top <= MARK_B {
+        let mut to = s;
+        to.counter = 1;
+        out.rule(Transition {
+            from: s,
+            top,
+            to,
+            new: Right::Push(Symbol(closing_of(top)), Symbol(top)),
+        });
     }
-    let mut to = s;
-    to[0] = 1;
-    let closing = closing_of(top);
-    let r = Transition {
-        from: s,
-        top: top,
-        to: to,
-        new: Right::Push(Symbol(closing), Symbol(top)),
-    };
-    line::put_rule(store, at, k, r, write)
 }
 
 // The symbol that comes over a top: the helper over A's, the check symbol over B's.
@@ -154,8 +146,9 @@ fn put_close(store: &mut [u8], at: usize, k: usize, s: [u8; 4], top: u8, write: 
 fn closing_of(top: u8) -> u8
     ensures { result ≡ closing (holder_of top) }
 {
-    if top < 16 {
-        return 35;
+    if top < FROM_B || top == MARK_A {
+        HELPER
+    } else {
+        CHECK
     }
-    if top == 32 { 35 } else { 34 }
 }

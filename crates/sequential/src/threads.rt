@@ -4,101 +4,72 @@ ghost use Rattle.model.specs.Fits.{Fits, RuleFits, RightFits};
 ghost use Rattle.sequential.specs.Allowed.{symbol_of};
 ghost use Rattle.sequential.specs.Answer.{plain_thread};
 ghost use Rattle.sequential.specs.Listed.{taker_of, act_of, acts_of, taken_at};
-ghost use Rattle.sequential.specs.Parts.{Counted, limit, state_of, right_of, Takes, ActsFit};
+ghost use Rattle.sequential.specs.Parts.{state_of, right_of, ActsFit};
 ghost use Rattle.sequential.specs.Text.{text_of};
 
-use crate::{Transition, line};
-use model::{Model, Right, Rule, Symbol, Thread, ThreadId, Top};
+use crate::sink::Sink;
+use crate::state::{State, Transition};
+use model::{Model, Right, Rule, Symbol, Thread, ThreadId};
+
+// The first of B's symbols in the one stack, which come after A's. A number, as the others in `rules`.
+pub const FROM_B: u8 = 16;
 
 // Whether a thread has no held rule and names no top.
+#[tactic(auto, unfolding(crate::specs::Answer::plain_thread, crate::specs::Answer::unnamed))]
 pub fn is_plain(t: Thread) -> bool
     ensures { result ≡ plain_thread t }
 {
-    let held = t.held;
-    let top = t.top;
-    match top {
-        Top::Any => model::all_zero(held),
-        Top::Named(_) => false,
+    match t.top {
+        None => model::all_zero(t.held),
+        Some(_) => false,
     }
 }
 
-// Puts the rules that take a top at a state, or only counts their bytes: A's below 16, and B's from there on.
-pub fn put_taken(store: &mut [u8], at: usize, m: Model, s: [u8; 4], top: u8, write: bool) -> usize
-    requires fact_1 { Fits m }
-    requires fact_2 { Takes m.k s top }
-    requires fact_3 { at + length (text_of (taken_at m (taker_of top) (state_of m.k s) top)) ≤ limit write (length store.old) }
-    ensures { Counted write store.old store.new at result
-        (text_of (taken_at m (taker_of top) (state_of m.k s) top)) }
+// Puts the rules that take a top at a state: A's where it is A's symbol, and else B's. That a turn is left is a clause here, below and in
+// `rules`: a state may also stand past its last turn, so `State` cannot say it.
+pub fn put_taken<S: Sink>(out: &mut S, m: Model, s: State, top: u8)
+    requires fits { Fits m }
+    requires turn { s.counter ≤ s.rounds }
+    requires room { length (text_of (taken_at m (taker_of top) (state_of s) top)) ≤ S.room out.old }
+    ensures { S.takes out.old out.new (text_of (taken_at m (taker_of top) (state_of s) top)) }
 {
-    let k = m.k as usize;
-    if top < 16 {
-        let a = m.a;
-        return put_acts(store, at, k, a, ThreadId::A, s, top, write);
+    if top < FROM_B {
+        put_acts(out, m.a, ThreadId::A, s, top);
+    } else {
+        put_acts(out, m.b, ThreadId::B, s, top);
     }
-    let b = m.b;
-    put_acts(store, at, k, b, ThreadId::B, s, top, write)
 }
 
 // Those of one thread.
-fn put_acts(
-    store: &mut [u8],
-    at: usize,
-    k: usize,
-    t: Thread,
-    id: ThreadId,
-    s: [u8; 4],
-    top: u8,
-    write: bool,
-) -> usize
-    requires fact_1 { ActsFit t }
-    requires fact_2 { Takes k s top }
-    requires fact_3 { at + length (text_of (acts_of t id (state_of k s) top)) ≤ limit write (length store.old) }
-    ensures { Counted write store.old store.new at result (text_of (acts_of t id (state_of k s) top)) }
+fn put_acts<S: Sink>(out: &mut S, t: Thread, id: ThreadId, s: State, top: u8)
+    requires fits { ActsFit t }
+    requires turn { s.counter ≤ s.rounds }
+    requires room { length (text_of (acts_of t id (state_of s) top)) ≤ S.room out.old }
+    ensures { S.takes out.old out.new (text_of (acts_of t id (state_of s) top)) }
 {
-    let mut next = at;
-    let mut r = 0;
-    while r < t.count {
-        next = put_act(store, next, k, t.rules[r], id, s, top, write);
-        r += 1;
+    for r in 0..t.count {
+        put_act(out, t.rules[r], id, s, top);
     }
-    next
 }
 
 // One rule of a thread, if it takes the top.
-fn put_act(
-    store: &mut [u8],
-    at: usize,
-    k: usize,
-    r: Rule,
-    id: ThreadId,
-    s: [u8; 4],
-    top: u8,
-    write: bool,
-) -> usize
-    requires fact_1 { RuleFits 4 r }
-    requires fact_2 { Takes k s top }
-    requires fact_3 { at + length (text_of (act_of r id (state_of k s) top)) ≤ limit write (length store.old) }
-    ensures { Counted write store.old store.new at result (text_of (act_of r id (state_of k s) top)) }
+fn put_act<S: Sink>(out: &mut S, r: Rule, id: ThreadId, s: State, top: u8)
+    requires fits { RuleFits 4 r }
+    requires turn { s.counter ≤ s.rounds }
+    requires room { length (text_of (act_of r id (state_of s) top)) ≤ S.room out.old }
+    ensures { S.takes out.old out.new (text_of (act_of r id (state_of s) top)) }
 {
-    let place = s[0] as usize;
-    if r.before.0 != s[place] {
-        return at;
+    let place = s.counter as usize - 1;
+    if r.before.0 == s.copies[place] && symbol_of(id, r.symbol.0) == top {
+        let mut to = s;
+        to.copies[place] = r.after.0;
+        out.rule(Transition {
+            from: s,
+            top,
+            to,
+            new: right_of(id, r.right),
+        });
     }
-    let symbol = r.symbol.0;
-    if symbol_of(id, symbol) != top {
-        return at;
-    }
-    let mut to = s;
-    to[place] = r.after.0;
-    let right = r.right;
-    let new = right_of(id, right);
-    let x = Transition {
-        from: s,
-        top: top,
-        to: to,
-        new: new,
-    };
-    line::put_rule(store, at, k, x, write)
 }
 
 // The new symbols of a thread's rule in the one stack.
@@ -120,6 +91,6 @@ fn symbol_of(id: ThreadId, symbol: u8) -> u8
 {
     match id {
         ThreadId::A => symbol,
-        ThreadId::B => 16 + symbol,
+        ThreadId::B => FROM_B + symbol,
     }
 }

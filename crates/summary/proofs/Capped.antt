@@ -6,7 +6,7 @@ use native.Mathlib.Decide.{dec_lt}
 use native.Mathlib.Nat.{le_refl, le_trans}
 use native.Mathlib.Omega.{arith}
 use lib.Dec.{ltb, eqb}
-use Rattle.summary.specs.Cells.{free_of, first, blank, Reset, Solved}
+use Rattle.summary.specs.Cells.{Ready, free_of, first, blank, Reset, Solved}
 use Rattle.summary.specs.Edges.{Edge, cell, Counts, Relaxed}
 use Rattle.summary.specs.Table.{unreached}
 
@@ -17,6 +17,10 @@ within low c h = record { most = λ at l. le_trans (low at) (c.most at (omega ar
 -- After a relaxation.
 pub held : {W : Edge → Type 0} {bound changes : ℕ} {t u : List ℕ} → Relaxed W t u changes → Counts bound t → Counts bound u
 held r c = within r.low c (le_refl _)
+
+-- A table that was ready is so after a relaxation.
+pub ready_on : {W : Edge → Type 0} {n bound changes : ℕ} {t u : List ℕ} → Relaxed W t u changes → Ready n bound t → Ready n bound u
+ready_on r ready = record { room = omega (arith, r.size, ready.room); counts = held r ready.counts }
 
 -- Up to the ends of two rows.
 pub rows_in : {bound end more : ℕ} {t : List ℕ} → Counts bound t → (end ≤ bound) × (more ≤ bound) → Counts end t × Counts more t

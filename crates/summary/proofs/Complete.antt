@@ -13,12 +13,13 @@ use Rattle.model.specs.declared.Right.{Right}
 use Rattle.model.specs.declared.Right.TheVariants.{Remove, Swap, Push}
 use Rattle.model.specs.declared.Symbol.{Symbol}
 use Rattle.model.specs.declared.Thread.{Thread}
-use Rattle.model.specs.declared.Top.{Top}
-use Rattle.model.specs.declared.Top.TheVariants.{Any, Named}
+use Rattle.model.specs.Tops.{Top}
+use Rattle.std.specs.Prelude.{None, Some}
 use Rattle.model.specs.Walk.{Step}
 use Rattle.model.proofs.Inside.{applies_iff}
 use Rattle.model.proofs.Tests.{equal}
-use Rattle.summary.specs.Cells.{plain, lane_of, shape_of, free_of, first, second, rest, blank, TopEdges, plain_by, lane_by, cross_by}
+use Rattle.summary.specs.Sizes.{shape_of}
+use Rattle.summary.specs.Cells.{plain, lane_of, free_of, first, second, rest, blank, TopEdges, plain_by, lane_by, cross_by}
 use Rattle.summary.specs.Cells.{FirstEnds, SecondEnds, Rules}
 use Rattle.summary.specs.Control.{Control, number, TurnEnd, Moves, Switches, dest, cell_from, entry, InTable, Known, any, named, Stays}
 use Rattle.summary.specs.Control.{EndInTable, Inside}
@@ -119,12 +120,12 @@ module _ {t : Thread} {top : Top} {N n : ℕ} (turn_of : ℕ → ℕ) {ends : �
         where
           stays : {top : Top} (f : Top) → Known top f → OnTop f γ → ((e : Edge) → TopEdges top N e → EdgeHolds tab e)
               → AtMost (cell tab (cell_from N ends 0 c.passed c.shared γ (dest (stay f c)))) 0
-          stays Any any o h =
+          stays None any o h =
               let same = clear c k.free in
               let l = R.low (plain c.shared γ (4 + c.shared)) (omega (arith, p.number, p.shared)) in
               let b = blank_here N c.shared γ (omega (arith, p.number, p.shared)) q in
               record { reached = omega arith; most = omega arith }
-          stays (Named s) named o h =
+          stays (Some s) named o h =
               let same = clear c k.free in
               let on : γ ≡ s.0 = (equal γ s.0).0 o in
               rw on (top_at (shape_of top N) tab two inside at_rest s c.passed c.shared (omega (arith, p.number, p.shared)) h)

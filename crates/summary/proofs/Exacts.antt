@@ -9,7 +9,7 @@ use native.Mathlib.Omega.{arith}
 use lib.ListN.{length}
 use borrow.Author.Tests.{le-leb, lt-leb}
 use Rattle.model.specs.declared.Thread.{Thread}
-use Rattle.model.specs.declared.Top.{Top}
+use Rattle.model.specs.Tops.{Top}
 use Rattle.model.specs.Walk.{Step}
 use Rattle.model.specs.Fits.{TopFits, ThreadFits}
 use Rattle.summary.specs.Cells.{controls_of, free_of, first, second, size, blank, Plain, First, Second, Solved}

@@ -7,8 +7,8 @@ use Prim.Native.Nat.{ℕ}
 use lib.Dec.{T}
 use Rattle.model.specs.declared.Right.{Right}
 use Rattle.model.specs.declared.Right.TheVariants.{Remove, Swap, Push}
-use Rattle.model.specs.declared.Top.{Top}
-use Rattle.model.specs.declared.Top.TheVariants.{Any, Named}
+use Rattle.model.specs.Tops.{Top}
+use Rattle.std.specs.Prelude.{None, Some}
 use Rattle.model.specs.Rules.{put}
 use Rattle.model.specs.Walk.{has_top}
 use Rattle.summary.specs.Stretch.{pop, stay, OnTop, Path, Stretch}
@@ -22,9 +22,9 @@ put_on (Push a b) w v = refl
 
 -- A top above the floor is one without it ..
 top_over : (top : Top) (φ : ℕ) (w : List ℕ) → T (has_top top w) → T (has_top top (w ++ φ ∷ []))
-top_over Any φ w h = tt
-top_over (Named s) φ [] h = absurd h
-top_over (Named s) φ (γ ∷ w) h = h
+top_over None φ w h = tt
+top_over (Some s) φ [] h = absurd h
+top_over (Some s) φ (γ ∷ w) h = h
 
 -- .. and the other way, where the floor is no top that only it would do.
 top_under : (top : Top) (φ : ℕ) → (OnTop top φ → T (has_top top [])) → (w : List ℕ) → T (has_top top (w ++ φ ∷ []))

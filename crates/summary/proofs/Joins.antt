@@ -10,8 +10,8 @@ use borrow.Author.Tests.{lt-ltb, eq-eqb}
 use Rattle.model.specs.declared.Right.{Right}
 use Rattle.model.specs.declared.Right.TheVariants.{Remove, Swap, Push}
 use Rattle.model.specs.declared.Symbol.{Symbol}
-use Rattle.model.specs.declared.Top.TheVariants.{Named}
-use Rattle.summary.specs.declared.Shape.{Shape}
+use Rattle.std.specs.Prelude.{Some}
+use Rattle.summary.specs.Sizes.{Sizes}
 use Rattle.summary.specs.Cells.{plain, gone, lane_of, free_of, first, second, rest, blank, TopEdges, plain_by, lane_by, cross_by}
 use Rattle.summary.specs.Cells.{FirstEnds, SecondEnds}
 use Rattle.summary.specs.Control.{TurnEnd, cell_from, Inside}
@@ -39,7 +39,7 @@ in_row {tab} {w} {K} {A} {B} h x i {k} {b} p q u v =
     (subst (λ b. AtMost (cell tab (K + x)) (w + cell tab A + cell tab b)) q (record { reached = e.reached u v'; most = e.most u v' }))
 
 -- The edges of one rule hold, from control p with γ on top to control h.
-pub record RuleEdgesHold (sh : Shape) (n : ℕ) (ends : ℕ → TurnEnd) (tab : List ℕ) (p γ h : ℕ) (x : Right) : Type 0 where
+pub record RuleEdgesHold (sh : Sizes) (n : ℕ) (ends : ℕ → TurnEnd) (tab : List ℕ) (p γ h : ℕ) (x : Right) : Type 0 where
   pub plains : (e : Edge) → plain_by sh p γ h x e → EdgeHolds tab e
   pub lanes1 : 1 ≤ n → (e : Edge) → lane_by sh (first sh.controls) p γ h x e → EdgeHolds tab e
   pub cross2 : 2 ≤ n → (e : Edge) → cross_by sh (lane_of (ends 0).leave (ends 0).enter) p γ h x e → EdgeHolds tab e
@@ -49,7 +49,7 @@ pub record RuleEdgesHold (sh : Shape) (n : ℕ) (ends : ℕ → TurnEnd) (tab : 
 weaker : {e i j : ℕ} → AtMost e i → i ≤ j → AtMost e j
 weaker h k = record { reached = h.reached; most = le_trans h.most k }
 
-module _ (sh : Shape) {n : ℕ} {ends : ℕ → TurnEnd} (tab : List ℕ) (two : n ≤ 2)
+module _ (sh : Sizes) {n : ℕ} {ends : ℕ → TurnEnd} (tab : List ℕ) (two : n ≤ 2)
     (inside : Inside (free_of sh.controls) n ends) (zero-cell : cell tab rest ≡ 0) where
   -- The cell of a stretch with k turn ends inside, from control p in the j-th turn of the thread on.
   abbrev at : ℕ → ℕ → ℕ → ℕ → ℕ → ℕ
@@ -66,7 +66,7 @@ module _ (sh : Shape) {n : ℕ} {ends : ℕ → TurnEnd} (tab : List ℕ) (two :
       let e = in_row h x i p q (omega arith) v in record { reached = e.reached; most = omega (arith, e.most) }
 
   -- To stay under the named top takes no step.
-  pub top_at : (s : Symbol) (j p : ℕ) → p < free_of sh.controls → ((e : Edge) → TopEdges (Named s) sh.controls e → EdgeHolds tab e)
+  pub top_at : (s : Symbol) (j p : ℕ) → p < free_of sh.controls → ((e : Edge) → TopEdges (Some s) sh.controls e → EdgeHolds tab e)
       → AtMost (cell tab (at 0 j p s.0 (8 + p))) 0
   top_at s j p i h =
       let e =

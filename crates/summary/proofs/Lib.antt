@@ -10,6 +10,7 @@ pub mod Loops
 pub mod Meanings
 pub mod Numbers
 pub mod Overs
+pub mod Pushdowns
 pub mod Ranging
 pub mod Reaches
 pub mod Relaxing

@@ -7,11 +7,11 @@ use native.Mathlib.Nat.{add-zero, le_trans}
 use native.Mathlib.Omega.{arith}
 use Rattle.model.specs.declared.Symbol.{Symbol}
 use Rattle.model.specs.declared.Thread.{Thread}
-use Rattle.model.specs.declared.Top.{Top}
-use Rattle.model.specs.declared.Top.TheVariants.{Any, Named}
+use Rattle.model.specs.Tops.{Top}
+use Rattle.std.specs.Prelude.{None, Some}
 use Rattle.model.specs.Fits.{TopFits}
 use Rattle.model.proofs.Tests.{equal}
-use Rattle.summary.specs.declared.Shape.{Shape}
+use Rattle.summary.specs.Sizes.{Sizes}
 use Rattle.summary.specs.Cells.{plain, lane, lane_of, free_of, first, second, rest, blank, TopEdges, FirstEnds}
 use Rattle.summary.specs.Control.{Control, number, TurnEnd, Moves, Switches, dest, cell_from, Known, named, Stays, Inside}
 use Rattle.summary.specs.Edges.{Edge, Row, Below}
@@ -46,15 +46,15 @@ pub record Passes (top : Top) (N n m : ℕ) (c : Control) (γ : ℕ) (d : End Co
 -- Destinations are below 16.
 dest_lt : (d : End Control) → ((end_of d).shared < 4) × (number (end_of d) < 8) → dest d < 16
 dest_lt (pop c) h = omega arith
-dest_lt (stay Any c) h = omega arith
-dest_lt (stay (Named s) c) h = omega arith
+dest_lt (stay None c) h = omega arith
+dest_lt (stay (Some s) c) h = omega arith
 
 -- The end at the destination of a pop.
 pub pop_end : (c : Control) (u : End Control) → (end_of u).passed ≡ c.passed → dest u ≡ dest (pop c) → (c.shared < 4) × (number c < 8)
     → ((end_of u).shared < 4) × (number (end_of u) < 8) → u ≡ pop c
 pop_end c (pop d) p q h k = ap pop (control_eq d c p (omega arith) (omega arith))
-pop_end c (stay Any d) p q h k = absurd (omega arith)
-pop_end c (stay (Named s) d) p q h k = absurd (omega arith)
+pop_end c (stay None d) p q h k = absurd (omega arith)
+pop_end c (stay (Some s) d) p q h k = absurd (omega arith)
 
 -- A destination of 4 or more and below 12 is a stay.
 pub stay_end : (u : End Control) → 4 ≤ dest u → dest u < 12 → (end_of u).shared < 4 → (top : Top) × (u ≡ stay top (end_of u))
@@ -62,23 +62,23 @@ stay_end (pop c) p q h = absurd (omega arith)
 stay_end (stay top c) p q h = (top, refl)
 
 -- The name of a named top that is known.
-known_name : (s r : Symbol) → Known (Named s) (Named r) → r ≡ s
+known_name : (s r : Symbol) → Known (Some s) (Some r) → r ≡ s
 known_name s r named = refl
 
 -- The end at the destination of staying in place ..
 here_end : (top : Top) (c : Control) (u : End Control) → Asks (Stays top) u → (end_of u).passed ≡ c.passed → dest u ≡ 4 + number c
-    → number c < 4 → ((end_of u).shared < 4) × (number (end_of u) < 8) → u ≡ stay Any c
+    → number c < 4 → ((end_of u).shared < 4) × (number (end_of u) < 8) → u ≡ stay None c
 here_end top c (pop d) a p q h k = absurd (omega arith)
-here_end top c (stay Any d) a p q h k = ap (stay Any) (control_eq d c p (rw a.free (omega arith)) (omega arith))
-here_end top c (stay (Named s) d) a p q h k = absurd (omega arith)
+here_end top c (stay None d) a p q h k = ap (stay None) (control_eq d c p (rw a.free (omega arith)) (omega arith))
+here_end top c (stay (Some s) d) a p q h k = absurd (omega arith)
 
 -- .. and of staying there under the named top.
-named_end : (s : Symbol) (c : Control) (u : End Control) → Asks (Stays (Named s)) u → (end_of u).passed ≡ c.passed
-    → dest u ≡ 8 + number c → number c < 4 → ((end_of u).shared < 4) × (number (end_of u) < 8) → u ≡ stay (Named s) c
+named_end : (s : Symbol) (c : Control) (u : End Control) → Asks (Stays (Some s)) u → (end_of u).passed ≡ c.passed
+    → dest u ≡ 8 + number c → number c < 4 → ((end_of u).shared < 4) × (number (end_of u) < 8) → u ≡ stay (Some s) c
 named_end s c (pop d) a p q h k = absurd (omega arith)
-named_end s c (stay Any d) a p q h k = absurd (omega arith)
-named_end s c (stay (Named r) d) a p q h k =
-    rw (known_name s r a.known) (ap (stay (Named s)) (control_eq d c p (rw a.free (omega arith)) (omega arith)))
+named_end s c (stay None d) a p q h k = absurd (omega arith)
+named_end s c (stay (Some r) d) a p q h k =
+    rw (known_name s r a.known) (ap (stay (Some s)) (control_eq d c p (rw a.free (omega arith)) (omega arith)))
 
 module _ (t : Thread) (top : Top) (N : ℕ) (turn_of : ℕ → ℕ) (ends : ℕ → TurnEnd) (n : ℕ) where
   -- A count of stretches of this thread.
@@ -149,8 +149,8 @@ module _ (t : Thread) (top : Top) (N : ℕ) (N8 : N ≤ 8) (turn_of : ℕ → �
       settle 0 k (blank N k) (first_part N k (omega arith))
       (λ c γ d s e h.
       let b : dest d ≡ 4 + number c = blank_dest (number c) γ (dest d) k s.symbol (dest_lt d s.to) (omega arith) (blank_cell N k h).1 in
-      let end : d ≡ stay Any c = here_end top c d s.asks (omega arith) b (omega arith) s.to in
-      subst (λ u. Reached t top N turn_of ends n c γ u (blank N k)) (sym end) (here_reach (Moves t turn_of) (Switches ends n) Any c γ (blank N k) tt))
+      let end : d ≡ stay None c = here_end top c d s.asks (omega arith) b (omega arith) s.to in
+      subst (λ u. Reached t top N turn_of ends n c γ u (blank N k)) (sym end) (here_reach (Moves t turn_of) (Switches ends n) None c γ (blank N k) tt))
       m c γ d s e h
 
   -- A change of turn, from a control that no held step has led to.
@@ -166,7 +166,7 @@ module _ (t : Thread) (top : Top) (N : ℕ) (N8 : N ≤ 8) (turn_of : ℕ → �
       (f m c₁ γ u (record { gap = omega arith; last = s.last; from = (omega arith, omega arith); symbol = s.symbol; to = s.to; asks = s.asks }) (rw same e) l)
 
   -- The edges of one turn end.
-  pub first_good : (sh : Shape) → sh.controls ≡ N → sh.dests ≤ 16 → (e : Edge) → FirstEnds sh e → Good t top N turn_of ends n e
+  pub first_good : (sh : Sizes) → sh.controls ≡ N → sh.dests ≤ 16 → (e : Edge) → FirstEnds sh e → Good t top N turn_of ends n e
   first_good sh same-N few e b =
       let o = b.i in
       let i = b.at.i in
@@ -213,15 +213,15 @@ module _ (t : Thread) (top : Top) (N : ℕ) (N8 : N ≤ 8) (turn_of : ℕ → �
 -- The edges of the named top: to stay under it takes no step.
 pub top_good : (t : Thread) (top : Top) (N : ℕ) (N8 : N ≤ 8) (turn_of : ℕ → ℕ) (ends : ℕ → TurnEnd) (n : ℕ) (n2 : n ≤ 2)
     (small : Inside (free_of N) n ends) → TopFits top → (e : Edge) → TopEdges top N e → Good t top N turn_of ends n e
-top_good t Any N N8 turn_of ends n n2 small fits e w = absurd w
-top_good t (Named s) N N8 turn_of ends n n2 small fits e w =
+top_good t None N N8 turn_of ends n n2 small fits e w = absurd w
+top_good t (Some s) N N8 turn_of ends n n2 small fits e w =
     let q = w.i in
     let low : q < 4 = omega (arith, w.inside) in
     let spot : (z : ℕ) → z < 1 → Offset N 0 q s.0 (8 + q) z = λ z k. record { part = omega arith; control = omega (arith, w.inside); symbol = omega arith; dest = omega arith; offset = omega arith } in
-    rows t (Named s) N N8 turn_of ends n n2 small 0 q s.0 (8 + q) 0 rest rest 1
+    rows t (Some s) N N8 turn_of ends n n2 small 0 q s.0 (8 + q) 0 rest rest 1
     (λ z k. (parts N 0 q s.0 (8 + q) z (spot z k), λ h. spot z k))
     (λ x y z k i j f g c γ u p a.
-    let end : u ≡ stay (Named s) c = named_end s c u p.asks (omega arith) (omega (arith, (a.narrow k).0, a.control)) (omega (arith, a.control)) p.to in
-    subst (λ v. Reached t (Named s) N turn_of ends n c γ v (min (0 + x + y) cap)) (sym end)
-    (here_reach (Moves t turn_of) (Switches ends n) (Named s) c γ (min (0 + x + y) cap) ((equal γ s.0).1 a.symbol)))
+    let end : u ≡ stay (Some s) c = named_end s c u p.asks (omega arith) (omega (arith, (a.narrow k).0, a.control)) (omega (arith, a.control)) p.to in
+    subst (λ v. Reached t (Some s) N turn_of ends n c γ v (min (0 + x + y) cap)) (sym end)
+    (here_reach (Moves t turn_of) (Switches ends n) (Some s) c γ (min (0 + x + y) cap) ((equal γ s.0).1 a.symbol)))
     e w.at

@@ -7,12 +7,13 @@ use native.Mathlib.Omega.{arith}
 use borrow.Author.Tests.{le-leb, lt-leb, le-ltb, lt-ltb}
 use Rattle.model.specs.Bits.{one_if, all_zero}
 use Rattle.model.specs.declared.Thread.{Thread}
-use Rattle.model.specs.declared.Top.{Top}
-use Rattle.model.specs.declared.Top.TheVariants.{Any, Named}
+use Rattle.model.specs.Tops.{Top}
+use Rattle.std.specs.Prelude.{None, Some}
 use Rattle.model.specs.Fits.{ThreadFits}
 use Rattle.model.specs.Rules.{rule_at, held_at}
 use Rattle.model.proofs.Marks.{no_bit}
-use Rattle.summary.specs.Cells.{number_of, controls_of, gone, stays_of, stays_end, shape_of, ShapeFits, flags_of, to_of}
+use Rattle.summary.specs.Sizes.{stays_end, shape_of, ShapeFits}
+use Rattle.summary.specs.Cells.{number_of, controls_of, gone, stays_of, flags_of, to_of}
 use Rattle.summary.specs.Control.{Control, number, numbered, dest, Known, any, named, InTable, EndInTable}
 use Rattle.summary.specs.Kinds.{RuleIn, RulesIn}
 use Rattle.summary.specs.Stretch.{End, pop, stay}
@@ -71,9 +72,14 @@ numbered_in {j = j} {p = p} most h l =
     record { passed = h; shared = omega arith; number = rw (number_at j p (omega arith)).0 l }
 
 -- The stays of a table for a top end at 8 or at 12.
-stays_range : (top : Top) → (8 ≤ stays_end top) × (stays_end top ≤ 12)
-stays_range Any = omega arith
-stays_range (Named s) = omega arith
+pub stays_range : (top : Top) → (8 ≤ stays_end top) × (stays_end top ≤ 12)
+stays_range None = omega arith
+stays_range (Some s) = omega arith
+
+-- They are four, from the first of them on.
+pub stays_after : (top : Top) → stays_of top + 4 ≡ stays_end top
+stays_after None = refl
+stays_after (Some s) = refl
 
 -- All destinations end there, or at 16.
 dests_range : (top : Top) (N : ℕ) → (stays_end top ≤ (shape_of top N).dests) × ((shape_of top N).dests ≤ 16)
@@ -86,8 +92,8 @@ dests_range top N =
 
 -- The first of the stays under a top is at most 8.
 pub stays_low : (top : Top) → stays_of top ≤ 8
-stays_low Any = omega arith
-stays_low (Named s) = omega arith
+stays_low None = omega arith
+stays_low (Some s) = omega arith
 
 -- A thread with g states has at least those controls and at most four more.
 pub controls_range : (t : Thread) (g : ℕ) → (g ≤ controls_of t g) × (controls_of t g ≤ 4 + g)
@@ -133,17 +139,17 @@ dest_low top N (pop c) most (o, k) = low c.held o.shared o.number
     low : (held : Bool) → c.shared < 4 → number_of held c.shared < N → 12 * one_if held + c.shared < (shape_of top N).dests
     low true h l = rw (lt-ltb 4 N (omega arith)) (omega arith)
     low false h l = omega (arith, stays_range top, dests_range top N)
-dest_low top N (stay Any c) most (o, k) = omega (arith, o.shared, stays_range top, dests_range top N)
-dest_low (Named s) N (stay (Named r) c) most (o, k) = omega (arith, o.shared, dests_range (Named s) N)
-dest_low Any N (stay (Named r) c) most (o, k) = absurd (other k.known refl refl)
+dest_low top N (stay None c) most (o, k) = omega (arith, o.shared, stays_range top, dests_range top N)
+dest_low (Some s) N (stay (Some r) c) most (o, k) = omega (arith, o.shared, dests_range (Some s) N)
+dest_low None N (stay (Some r) c) most (o, k) = absurd (other k.known refl refl)
   where
-    other : {top f : Top} → Known top f → top ≡ Any → f ≡ Named r → ⊥
+    other : {top f : Top} → Known top f → top ≡ None → f ≡ Some r → ⊥
     other any e h = let z : ◌≡◌ {A = ℕ} 0 1 = cc in omega arith
     other named e h = let z : ◌≡◌ {A = ℕ} 0 1 = cc in omega arith
 
 -- A stay has a number from 4 on, below where the stays end.
 pub stay_span : (top : Top) (f : Top) (c : Control) → Known top f → c.shared < 4
     → (4 ≤ dest (stay f c)) × (dest (stay f c) < stays_end top)
-stay_span top Any c any h = omega (arith, stays_range top)
-stay_span (Named s) (Named r) c named h = omega arith
-stay_span Any (Named r) c x3 h = elim x3 [ ]
+stay_span top None c any h = omega (arith, stays_range top)
+stay_span (Some s) (Some r) c named h = omega arith
+stay_span None (Some r) c x3 h = elim x3 [ ]

@@ -6,15 +6,15 @@ use lib.Dec.{T}
 use Rattle.model.specs.declared.Right.{Right}
 use Rattle.model.specs.declared.Right.TheVariants.{Remove, Swap, Push}
 use Rattle.model.specs.declared.Symbol.{Symbol}
-use Rattle.model.specs.declared.Top.{Top}
-use Rattle.model.specs.declared.Top.TheVariants.{Any, Named}
+use Rattle.model.specs.Tops.{Top}
+use Rattle.std.specs.Prelude.{None, Some}
 use Rattle.model.specs.Walk.{has_top}
 use Rattle.summary.specs.Stretch.{pop, stay, Path, Stretch}
 
 -- What lies below a top does not matter to it.
 pub on_top_lem : (top : Top) (γ : ℕ) (v w : List ℕ) → T (has_top top (γ ∷ v)) → T (has_top top (γ ∷ w))
-on_top_lem Any γ v w h = tt
-on_top_lem (Named s) γ v w h = h
+on_top_lem None γ v w h = tt
+on_top_lem (Some s) γ v w h = h
 
 -- Switches alone, which are all that an empty stack may do.
 pub data Idling {C : Type 0} (Switch : C → C → Type 0) : C → C → Type 0 where

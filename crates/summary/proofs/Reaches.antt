@@ -6,7 +6,7 @@ use lib.ListN.{length, length-append}
 use Rattle.model.specs.declared.Right.{Right}
 use Rattle.model.specs.declared.Right.TheVariants.{Remove, Swap, Push}
 use Rattle.model.specs.declared.Symbol.{Symbol}
-use Rattle.model.specs.declared.Top.{Top}
+use Rattle.model.specs.Tops.{Top}
 use Rattle.summary.specs.Stretch.{End, pop, stay, OnTop, Stretch}
 use Rattle.summary.specs.Table.{cap, Uses}
 

@@ -7,10 +7,13 @@ use native.Mathlib.Decide.{ℕ_discrete, dec_lt}
 use native.Mathlib.Omega.{arith}
 use borrow.Author.Tests.{le-ltb, lt-ltb, ne_eqb}
 use lib.Dec.{eqb}
-use lib.ListN.{length, set, length-set}
+use lib.ListN.{length, get_or, set, length-set, replicate, get_or-replicate}
+use borrow.Rule.Slice.PartMut.{put_mid, same_len_mid}
+use Rattle.std.proofs.Common.{rules}
+use Rattle.std.proofs.lemmas.List.{places}
 use lib.Seq.{get_or-set_same, get_or-set_other}
-use Rattle.model.specs.declared.Top.{Top}
-use Rattle.model.specs.declared.Top.TheVariants.{Any, Named}
+use Rattle.model.specs.Tops.{Top}
+use Rattle.std.specs.Prelude.{None, Some}
 use Rattle.summary.specs.Cells.{free_of, first, rest, blank, stay_of, TopEdges, ResetNode, Reset}
 use Rattle.summary.specs.Edges.{Edge, cell}
 use Rattle.summary.specs.Table.{unreached}
@@ -18,18 +21,6 @@ use Rattle.summary.proofs.Joins.{blank_here}
 
 pub reset_start : (N from : ℕ) (t : List ℕ) → Reset N from from t t
 reset_start N from t = record { size = refl; inside = λ k h l. absurd (omega arith); below = λ k h. refl }
-
-pub reset_next : {N from i : ℕ} {t u : List ℕ} {v : ℕ} → Reset N from i t u → from ≤ i → i < length u → v ≡ blank N i
-    → Reset N from (i + 1) t (set u i v)
-reset_next {N} {from} {i} {t} {u} {v} r h room e =
-    record {
-      size = length-set u i v ∙ r.size;
-      inside = λ k f l. elim (ℕ_discrete k i) [
-        | yes s ↦ rw (s, get_or-set_same u i v 0 room) e
-        | no n ↦ rw (get_or-set_other u i k v 0 n) (r.inside k f (omega arith))
-      ];
-      below = λ k f. get_or-set_other u i k v 0 (λ s. omega arith) ∙ r.below k f;
-    }
 
 -- One cell more of a control and a symbol.
 pub node_start : (from stay : ℕ) (t : List ℕ) → ResetNode from stay 0 t t
@@ -77,15 +68,27 @@ nodes_next {N} {k} {from} {stay} {t} {u} {v} r h ef es n =
     }
 
 -- In a part with turn ends inside nothing is reached at the start.
-pub blank_part : (N k : ℕ) → first N ≤ k → unreached ≡ blank N k
+blank_part : (N k : ℕ) → first N ≤ k → unreached ≡ blank N k
 unfolding blank
 blank_part N k h = rw (le-ltb k (first (free_of N)) (omega arith))
+
+-- So is a part of the table that is filled with what stands for no count.
+pub reset_filled : {N from to : ℕ} {t ys : List ℕ} → first N ≤ from → from ≤ to → to ≤ length t → ys ≡ replicate (to - from) unreached
+    → Reset N from to t (put_mid from (to - from) t ys)
+reset_filled {N} {from} {to} {t} {ys} low up room e =
+    record {
+      size = same_len_mid from (to - from) t ys (search (rules, e, places));
+      inside = λ k h l.
+          let in_part : get_or (put_mid from (to - from) t ys) k 0 ≡ get_or ys (k - from) 0 = search (rules, places) in
+          in_part ∙ rw (e, get_or-replicate (to - from) (k - from) unreached 0 (omega arith)) (blank_part N k (omega arith));
+      below = λ k h. search (rules, places);
+    }
 
 -- The edges of the named top join a cell that is 0 in the blank table.
 pub top_zeros : (top : Top) (N : ℕ) → 1 ≤ N → {t u : List ℕ} → Reset N 0 (first N) t u → (e : Edge) → TopEdges top N e
     → (cell u e.a ≡ 0) × (cell u e.b ≡ 0)
-top_zeros Any N some r e w = absurd w
-top_zeros (Named s) N some {u = u} r e w =
+top_zeros None N some r e w = absurd w
+top_zeros (Some s) N some {u = u} r e w =
     let row = w.at in
     let none : row.x ≡ 0 = omega (arith, row.inside) in
     let zero : cell u rest ≡ 0 = r.inside rest (omega arith) (omega arith) ∙ blank_here N 0 0 (omega arith) (omega arith) in

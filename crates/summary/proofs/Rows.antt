@@ -1,7 +1,8 @@
 -- A row of edges, one after another: the fixed part is read once, and a row whose fixed part is not reached changes nothing.
+use mathlib.Core.Bool.{Bool, true, false}
 use mathlib.Core.List.{List}
 use mathlib.Core.Logic.{◌⊎◌, inl, inr}
-use mathlib.Core.Path.{◌≡◌, sym, subst, ◌∙◌}
+use mathlib.Core.Path.{◌≡◌, refl, sym, subst, ◌∙◌}
 use Prim.Native.Nat.{ℕ, ◌+◌, ◌-◌, ◌≤◌, ◌<◌, min, max}
 use native.Mathlib.Nat.{add-zero, add_assoc}
 use borrow.Author.Tests.{le-leb, lt-leb}
@@ -9,6 +10,8 @@ use native.Mathlib.Nat.{le_refl}
 use native.Mathlib.Decide.{dec_le, dec_lt}
 use native.Mathlib.Omega.{arith}
 use lib.ListN.{length, set}
+use mir.Val.{bool_byte}
+use Rattle.model.specs.Bits.{one_if}
 use Rattle.summary.specs.Edges.{Edge, cell, best_of, EdgeHolds, kept, less, Relaxed, Row}
 use Rattle.summary.specs.Table.{cap, unreached}
 use Rattle.summary.proofs.Relaxing.{wider, with, then, one, settled}
@@ -26,6 +29,11 @@ offered w y old i j =
       | yes h ↦ rw (le-leb y cap h) (omega arith)
       | no n ↦ rw (lt-leb y cap (omega arith)) (omega arith)
     ]
+
+-- A comparison as a number is 1 where it holds.
+pub counted : (b : Bool) → bool_byte b ≡ one_if b
+counted true = refl
+counted false = refl
 
 -- The rows of d and d + 1 edges differ by one.
 row_more : (w k a b d : ℕ) (e : Edge) → (Row w k a b d e ⊎ (e ≡ record { w = w; to = k + d; a = a; b = b + d }))

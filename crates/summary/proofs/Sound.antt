@@ -10,12 +10,13 @@ use Rattle.model.specs.declared.Right.{Right}
 use Rattle.model.specs.declared.Right.TheVariants.{Remove, Swap, Push}
 use Rattle.model.specs.declared.Symbol.{Symbol}
 use Rattle.model.specs.declared.Thread.{Thread}
-use Rattle.model.specs.declared.Top.{Top}
+use Rattle.model.specs.Tops.{Top}
 use Rattle.model.specs.Rules.{rule_at, held_at}
 use Rattle.model.specs.Walk.{Step}
 use Rattle.model.proofs.Inside.{applies_iff}
 use Rattle.model.specs.Fits.{RightFits, TopFits, ThreadFits}
-use Rattle.summary.specs.Cells.{plain, gone, lane, lane_of, controls_of, shape_of, ShapeFits, free_of, flags_of, first, second, rest, blank}
+use Rattle.summary.specs.Sizes.{shape_of, ShapeFits}
+use Rattle.summary.specs.Cells.{plain, gone, lane, lane_of, controls_of, free_of, flags_of, first, second, rest, blank}
 use Rattle.summary.specs.Cells.{to_of, plain_by, lane_by, cross_by, Second}
 use Rattle.summary.specs.Control.{Control, number, numbered, TurnEnd, Moves, Switches, dest, cell_from, InTable, EndInTable, Inside}
 use Rattle.summary.specs.Edges.{Edge, From, kept, by, Row}

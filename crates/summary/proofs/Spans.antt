@@ -6,12 +6,12 @@ use native.Mathlib.Omega.{arith}
 use Rattle.model.specs.declared.Right.{Right}
 use Rattle.model.specs.declared.Right.TheVariants.{Remove, Swap, Push}
 use Rattle.model.specs.declared.Thread.{Thread}
-use Rattle.model.specs.declared.Top.{Top}
-use Rattle.model.specs.declared.Top.TheVariants.{Any, Named}
+use Rattle.model.specs.Tops.{Top}
+use Rattle.std.specs.Prelude.{None, Some}
 use Rattle.model.specs.Fits.{RightFits, TopFits}
-use Rattle.summary.specs.declared.Shape.{Shape}
+use Rattle.summary.specs.Sizes.{Sizes, shape_of, ShapeFits}
 use Rattle.summary.specs.Edges.{Edge, Row, Below}
-use Rattle.summary.specs.Cells.{plain, gone, lane, first, part, second, size, shape_of, ShapeFits, TopEdges, plain_by, lane_by, cross_by}
+use Rattle.summary.specs.Cells.{plain, gone, lane, first, part, second, size, TopEdges, plain_by, lane_by, cross_by}
 use Rattle.summary.specs.Cells.{FirstEnds, SecondEnds, Rules, Plain, First}
 use Rattle.summary.specs.Kinds.{RulesIn}
 
@@ -28,7 +28,7 @@ row_span {low} {high} {parts} w k a b n fits e r =
     let x = r.inside in subst (Span low high parts) (sym r.is) (omega arith)
 
 -- The edges of a rule from control p to control h, by its right side.
-module _ (sh : Shape) (fits : ShapeFits sh) (p γ h : ℕ) (ps : p < sh.controls) (γs : γ ≤ 15) (hs : h < sh.controls) where
+module _ (sh : Sizes) (fits : ShapeFits sh) (p γ h : ℕ) (ps : p < sh.controls) (γs : γ ≤ 15) (hs : h < sh.controls) where
   plain_right : (x : Right) → RightFits x → (e : Edge) → plain_by sh p γ h x e → Span 0 (first sh.controls) (first sh.controls) e
   plain_right Remove f e r = row_span _ _ _ _ _ (omega arith) e r
   plain_right (Swap a) f e r = row_span _ _ _ _ _ (omega arith) e r
@@ -59,7 +59,7 @@ module _ (sh : Shape) (fits : ShapeFits sh) (p γ h : ℕ) (ps : p < sh.controls
       let q = r.inside in row_span _ _ _ _ _ (omega arith) e r.at
 
 -- The edges of all rules of a thread.
-module _ (th : Thread) (sh : Shape) (fits : ShapeFits sh) (within : RulesIn sh.controls th) where
+module _ (th : Thread) (sh : Sizes) (fits : ShapeFits sh) (within : RulesIn sh.controls th) where
   -- What holds of the edges of a rule from each control holds of those of all rules.
   each : (F : ℕ → ℕ → ℕ → Right → Edge → Type 0) (P : Edge → Type 0)
       → ((p γ h : ℕ) (x : Right) → p < sh.controls → γ ≤ 15 → h < sh.controls → RightFits x → (e : Edge) → F p γ h x e → P e)
@@ -87,8 +87,8 @@ module _ (th : Thread) (sh : Shape) (fits : ShapeFits sh) (within : RulesIn sh.c
 
 -- The named top.
 pub top_span : (top : Top) (N : ℕ) → TopFits top → 1 ≤ N → (e : Edge) → TopEdges top N e → Span 0 (first N) (first N) e
-top_span Any N fits some e r = absurd r
-top_span (Named s) N fits some e r = let q = r.inside in row_span _ _ _ _ _ (omega arith) e r.at
+top_span None N fits some e r = absurd r
+top_span (Some s) N fits some e r = let q = r.inside in row_span _ _ _ _ _ (omega arith) e r.at
 
 -- All edges within one turn.
 pub plains_span : (th : Thread) (top : Top) (N : ℕ) → ShapeFits (shape_of top N) → TopFits top → RulesIn N th → (e : Edge) → Plain th top N e
@@ -97,7 +97,7 @@ plains_span th top N shape named within e (inl r) = top_span top N named shape.s
 plains_span th top N shape named within e (inr r) = plain_span th (shape_of top N) shape within e r
 
 -- Turn ends.
-pub first_ends_span : (sh : Shape) → ShapeFits sh → (e : Edge) → FirstEnds sh e
+pub first_ends_span : (sh : Sizes) → ShapeFits sh → (e : Edge) → FirstEnds sh e
     → Span (first sh.controls) (second sh.controls) (first sh.controls) e
 first_ends_span sh fits e r =
     let o = r.inside in
@@ -106,7 +106,7 @@ first_ends_span sh fits e r =
     let d = r.at.at.at.inside in
     row_span _ _ _ _ _ (omega arith) e r.at.at.at.at
 
-pub second_ends_span : (sh : Shape) (o i : ℕ) → ShapeFits sh → o < sh.controls → i < sh.controls → (e : Edge) → SecondEnds sh o i e
+pub second_ends_span : (sh : Sizes) (o i : ℕ) → ShapeFits sh → o < sh.controls → i < sh.controls → (e : Edge) → SecondEnds sh o i e
     → Span (second sh.controls) (size sh.controls) (second sh.controls) e
 second_ends_span sh o i fits p q e r =
     let γ = r.inside in row_span _ _ _ _ _ (omega arith) e r.at

@@ -4,11 +4,11 @@ use Rattle.model.specs.Bits.{all_zero, one_if}
 use Rattle.model.specs.declared.Right.{Right}
 use Rattle.model.specs.declared.Right.TheVariants.{Remove, Swap, Push}
 use Rattle.model.specs.declared.Thread.{Thread}
-use Rattle.model.specs.declared.Top.{Top}
-use Rattle.model.specs.declared.Top.TheVariants.{Any, Named}
+use Rattle.model.specs.Tops.{Top}
+use Rattle.std.specs.Prelude.{None, Some}
 use Rattle.model.specs.Rules.{rule_at, held_at}
-use Rattle.summary.specs.declared.Shape.{Shape}
-use Rattle.summary.specs.Edges.{Edge, EdgeHolds, From, cell, Row, Below, NoEdge}
+use Rattle.summary.specs.Sizes.{Sizes, shape_of}
+use Rattle.summary.specs.Edges.{Edge, EdgeHolds, From, cell, Counts, Row, Below, NoEdge}
 use Rattle.summary.specs.Table.{unreached}
 
 -- Controls are numbered: 0 to 3 are the shared states, 4 to 7 the same after a held step.
@@ -31,26 +31,8 @@ gone p = p + 8 * (p / 4)
 
 -- The first of the destinations of staying under a top.
 abbrev pub stays_of : Top → ℕ
-stays_of Any = 4
-stays_of (Named s) = 8
-
--- Where the destinations of staying end in a table for a top.
-abbrev pub stays_end : Top → ℕ
-stays_end Any = 8
-stays_end (Named s) = 12
-
--- What a table for a top has, by its number of controls: where the destinations of staying end, and where all do.
-abbrev pub shape_of : Top → ℕ → Shape
-shape_of top n = record { controls = n; stays = stays_end top; dests = cond (ltb 4 n) 16 (stays_end top) }
-
--- The numbers of a shape are in range.
-pub record ShapeFits (sh : Shape) : Type 0 where
-  pub some : 1 ≤ sh.controls
-  pub controls : sh.controls ≤ 8
-  pub low : 8 ≤ sh.stays
-  pub stays : sh.stays ≤ 12
-  pub all : sh.stays ≤ sh.dests
-  pub dests : sh.dests ≤ 16
+stays_of None = 4
+stays_of (Some s) = 8
 
 -- The controls that no held step has just led to.
 abbrev pub free_of : ℕ → ℕ
@@ -84,6 +66,11 @@ second n = first n + part n
 abbrev pub size : ℕ → ℕ
 size n = second n + part n
 
+-- A table of n controls has all its cells, and those below a bound hold counts.
+pub record Ready (n bound : ℕ) (table : List ℕ) : Type 0 where
+  pub room : size n ≤ length table
+  pub counts : Counts bound table
+
 -- A cell that is 0: to stay in place takes no step. It serves edges that have one part.
 abbrev pub rest : ℕ
 rest = 4
@@ -110,11 +97,11 @@ pub record ResetNode (from stay n : ℕ) (old new : List ℕ) : Type 0 where
 
 -- The edges of the named top: with that symbol on top, to stay in place takes no step.
 abbrev pub TopEdges : Top → ℕ → Edge → Type 0
-TopEdges Any n = NoEdge
-TopEdges (Named s) n = Below (free_of n) (λ q. Row 0 (plain q s.0 (8 + q)) rest rest 1)
+TopEdges None n = NoEdge
+TopEdges (Some s) n = Below (free_of n) (λ q. Row 0 (plain q s.0 (8 + q)) rest rest 1)
 
 -- The edges within one turn of a rule from control p with γ on top to control h, by its right side.
-abbrev pub plain_by : Shape → ℕ → ℕ → ℕ → Right → Edge → Type 0
+abbrev pub plain_by : Sizes → ℕ → ℕ → ℕ → Right → Edge → Type 0
 plain_by sh p γ h Remove = Row 1 (plain p γ (gone h)) rest rest 1
 plain_by sh p γ h (Swap a) = Row 1 (plain p γ 0) rest (plain h a.0 0) sh.dests
 plain_by sh p γ h (Push a b) =
@@ -122,7 +109,7 @@ plain_by sh p γ h (Push a b) =
     Below sh.controls (λ q. Row 1 (plain p γ 0) (plain h a.0 (gone q)) (plain q b.0 0) sh.dests) e ⊎ Row 1 (plain p γ 4) rest (plain h a.0 4) (sh.stays - 4) e
 
 -- The edges of such a rule with turn ends inside one of its parts: the first part is within the turn, or the second is.
-abbrev pub lane_by : Shape → ℕ → ℕ → ℕ → ℕ → Right → Edge → Type 0
+abbrev pub lane_by : Sizes → ℕ → ℕ → ℕ → ℕ → Right → Edge → Type 0
 lane_by sh base p γ h Remove = NoEdge
 lane_by sh base p γ h (Swap a) = Row 1 (lane base p γ 0) rest (lane base h a.0 0) (sh.dests * 16)
 lane_by sh base p γ h (Push a b) =
@@ -132,7 +119,7 @@ lane_by sh base p γ h (Push a b) =
     e ⊎ Row 1 (lane base p γ 4) rest (lane base h a.0 4) ((sh.stays - 4) * 16) e
 
 -- The edges of such a rule whose parts each have one turn end inside, the first part the one of lane l.
-abbrev pub cross_by : Shape → ℕ → ℕ → ℕ → ℕ → Right → Edge → Type 0
+abbrev pub cross_by : Sizes → ℕ → ℕ → ℕ → ℕ → Right → Edge → Type 0
 cross_by sh l p γ h Remove = NoEdge
 cross_by sh l p γ h (Swap a) = NoEdge
 cross_by sh l p γ h (Push a b) =
@@ -140,13 +127,13 @@ cross_by sh l p γ h (Push a b) =
     (λ q. Row 1 (lane (second sh.controls) p γ 0) (lane (first sh.controls) h a.0 (gone q) + l) (lane (first sh.controls) q b.0 0) (sh.dests * 16))
 
 -- The edges of one turn end, which takes no step and never comes after a held one: left at o, entered at i.
-abbrev pub FirstEnds : Shape → Edge → Type 0
+abbrev pub FirstEnds : Sizes → Edge → Type 0
 FirstEnds sh =
     Below (free_of sh.controls)
     (λ o. Below (free_of sh.controls) (λ i. Below 17 (λ γ. Below sh.dests (λ d. Row 0 (lane (first sh.controls) o γ d + lane_of o i) rest (plain i γ d) 1))))
 
 -- The edges of the turn end (o, i) before another one.
-abbrev pub SecondEnds : Shape → ℕ → ℕ → Edge → Type 0
+abbrev pub SecondEnds : Sizes → ℕ → ℕ → Edge → Type 0
 SecondEnds sh o i =
     Below 17 (λ γ. Row 0 (lane (second sh.controls) o γ 0) rest (lane (first sh.controls) i γ 0) (sh.dests * 16))
 

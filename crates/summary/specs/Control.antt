@@ -4,8 +4,8 @@ use Rattle.model.specs.Bits.{one_if}
 use Rattle.model.specs.declared.Right.{Right}
 use Rattle.model.specs.declared.Symbol.{Symbol}
 use Rattle.model.specs.declared.Thread.{Thread}
-use Rattle.model.specs.declared.Top.{Top}
-use Rattle.model.specs.declared.Top.TheVariants.{Any, Named}
+use Rattle.model.specs.Tops.{Top}
+use Rattle.std.specs.Prelude.{None, Some}
 use Rattle.model.specs.Rules.{rule_at, applies, held_at}
 use Rattle.model.specs.Walk.{Step}
 use Rattle.summary.specs.Cells.{number_of, controls_of, plain, lane, lane_of, first, second, stays_of}
@@ -78,8 +78,8 @@ pub record InTable (controls n : ℕ) (c : Control) : Type 0 where
 
 -- The tops that a table for a top has destinations for: any top will do, or the one that is named.
 pub data Known : Top → Top → Type 0 where
-  any : {top : Top} → Known top Any
-  named : {s : Symbol} → Known (Named s) (Named s)
+  any : {top : Top} → Known top None
+  named : {s : Symbol} → Known (Some s) (Some s)
 
 -- The stays that a table for a top has destinations for: under a known top, and not after a held step.
 pub record Stays (top f : Top) (c : Control) : Type 0 where

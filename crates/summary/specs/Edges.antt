@@ -73,6 +73,12 @@ pub record Row (w to a b count : ℕ) (e : Edge) : Type 0 where
 abbrev pub RowFits : ℕ → ℕ → ℕ → ℕ → ℕ → List ℕ → Type 0
 RowFits w to a b count table = (w ≤ 1) × (a < length table) × (to + count ≤ length table) × (b + count ≤ length table) × (count ≤ 256)
 
+-- It has cells for the row, and both of the row's runs of cells hold counts.
+pub record RowReady (w to a b count : ℕ) (table : List ℕ) : Type 0 where
+  pub fits : RowFits w to a b count table
+  pub goal : Counts (to + count) table
+  pub source : Counts (b + count) table
+
 -- The edges of a family, for each index below a count.
 pub record Below (count : ℕ) (F : ℕ → Edge → Type 0) (e : Edge) : Type 0 where
   pub i : ℕ

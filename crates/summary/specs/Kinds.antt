@@ -2,19 +2,17 @@
 use Rattle.std.specs.Prelude.{ℕ, ◌+◌, ◌*◌, ◌≤◌, ◌<◌}
 use Rattle.model.specs.declared.Right.{Right}
 use Rattle.model.specs.declared.Rule.{Rule}
-use Rattle.model.specs.declared.Symbol.{Symbol}
 use Rattle.model.specs.declared.Thread.{Thread}
 use Rattle.model.specs.Fits.{RightFits}
 use Rattle.model.specs.Rules.{rule_at}
 use Rattle.summary.specs.declared.Kind.{Kind}
 use Rattle.summary.specs.declared.Kind.TheVariants.{Plain, Lanes, Cross}
-use Rattle.summary.specs.declared.Push.{Push}
-use Rattle.summary.specs.declared.Shape.{Shape}
+use Rattle.summary.specs.Sizes.{Sizes}
 use Rattle.summary.specs.Cells.{first, part, second, size, flags_of, to_of, plain_by, lane_by, cross_by}
 use Rattle.summary.specs.Edges.{Edge}
 
 -- The edges of a kind of a rule from control p with γ on top to control h, by its right side.
-abbrev pub RuleEdges : Kind → Shape → ℕ → ℕ → ℕ → Right → Edge → Type 0
+abbrev pub RuleEdges : Kind → Sizes → ℕ → ℕ → ℕ → Right → Edge → Type 0
 RuleEdges Plain sh = plain_by sh
 RuleEdges (Lanes base) sh = lane_by sh base
 RuleEdges (Cross l) sh = cross_by sh l
@@ -30,18 +28,6 @@ abbrev pub part_end : ℕ → Kind → ℕ
 part_end n Plain = first n
 part_end n (Lanes base) = base + part n
 part_end n (Cross l) = size n
-
--- The push of a rule from control p with γ on top to control h.
-abbrev pub push_of : ℕ → ℕ → ℕ → Symbol → Symbol → Push
-push_of p γ h a b = record { from = p; symbol = γ; to = h; a = a.0; b = b.0 }
-
--- A push is between controls below n, and its symbols are in range.
-pub record PushFits (n : ℕ) (push : Push) : Type 0 where
-  pub from : push.from < n
-  pub symbol : push.symbol < 17
-  pub to : push.to < n
-  pub a : push.a < 17
-  pub b : push.b < 17
 
 -- A rule to control h stays within n controls, from each that has its before state.
 pub record RuleIn (n h : ℕ) (r : Rule) : Type 0 where

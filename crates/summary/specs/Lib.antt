@@ -2,5 +2,9 @@ pub mod Cells
 pub mod Control
 pub mod Edges
 pub mod Kinds
+pub mod Props
+pub mod Searches
+pub mod Shapes
+pub mod Sizes
 pub mod Stretch
 pub mod Table

@@ -1,6 +1,6 @@
 // The cells of the table, and the table before a search.
 ghost use Rattle.std.specs.Prelude.{◌≡◌, ◌+◌, ◌≤◌, ◌<◌, length};
-ghost use Rattle.summary.specs.Cells.{plain, gone, lane, free_of, first, second, size, stay_of, ResetNode, Reset};
+ghost use Rattle.summary.specs.Cells.{plain, gone, lane, free_of, flags_of, number_of, first, second, size, stay_of, ResetNode, Reset};
 
 use crate::UNREACHED;
 
@@ -12,6 +12,8 @@ pub const SIZE: usize = 71808;
 
 // A cell that is 0, for edges that have one part.
 pub const REST: usize = 4;
+
+// The ranges of numbers that make an address are clauses here: with a type for each of them every address would unwrap four.
 
 // Where the part with one turn end inside starts, in a table of so many controls.
 pub fn first_of(controls: usize) -> usize
@@ -41,7 +43,21 @@ pub fn size_of(controls: usize) -> usize
 pub fn free_of(controls: usize) -> usize
     ensures { result ≡ free_of controls }
 {
-    if controls < 4 { controls } else { 4 }
+    controls.min(4)
+}
+
+// How many controls have the same shared state.
+pub(crate) fn flags_of(controls: usize) -> usize
+    ensures { (result ≡ flags_of controls) × (result ≤ 2) }
+{
+    if 4 < controls { 2 } else { 1 }
+}
+
+// The number of the control with a shared state, after a held step or another.
+pub(crate) fn number_of(held: bool, state: u8) -> usize
+    ensures { result ≡ number_of held state }
+{
+    4 * usize::from(held) + state as usize
 }
 
 // The destination of a pop at a control.
@@ -74,14 +90,13 @@ pub fn reset_plain(table: &mut [u16], controls: usize)
     ensures { Reset controls 0 (first controls) table.old table.new }
 {
     let nodes = 17 * controls;
-    let mut k = 0;
-    while k < nodes {
+    for k in 0..nodes {
         reset_node(table, 16 * k, stay_of(k));
-        k += 1;
     }
 }
 
-// The destination of staying in place, of a control and a symbol in their order; 16, which is none, after a held step.
+// The destination of staying in place, of a control and a symbol in their order; 16, which is none, after a held step. A
+// number and no Option, so that it is compared with a destination as it stands.
 fn stay_of(k: usize) -> usize
     requires { k < 136 }
     ensures { result ≡ stay_of k }
@@ -94,21 +109,16 @@ fn reset_node(table: &mut [u16], from: usize, stay: usize)
     requires { from + 16 ≤ length table.old }
     ensures { ResetNode from stay 16 table.old table.new }
 {
-    let mut d = 0;
-    while d < 16 {
+    for d in 0..16 {
         table[from + d] = if d == stay { 0 } else { UNREACHED };
-        d += 1;
     }
 }
 
-// Makes a part with turn ends blank: nothing in it is reached.
+// Makes a part with turn ends blank: nothing in it is reached. `controls` is for the contract: `Reset` says by it which cells are those of staying
+// in place, and none of them is in such a part.
 pub fn reset_part(table: &mut [u16], controls: usize, from: usize, to: usize)
     requires { (first controls ≤ from) × (from ≤ to) × (to ≤ length table.old) }
     ensures { Reset controls from to table.old table.new }
 {
-    let mut i = from;
-    while i < to {
-        table[i] = UNREACHED;
-        i += 1;
-    }
+    table[from..to].fill(UNREACHED);
 }

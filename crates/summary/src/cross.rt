@@ -1,64 +1,53 @@
 // The edges of pushes with one turn end inside what comes of the first symbol, and one inside what comes of the second.
 ghost use Rattle.std.specs.Prelude.{◌+◌, ◌*◌, ◌≤◌, ◌<◌, length};
-ghost use Rattle.model.specs.Fits.{RightFits};
-ghost use Rattle.summary.specs.Cells.{gone, lane, size, first, second, ShapeFits, cross_by};
-ghost use Rattle.summary.specs.Edges.{Counts, Relaxed, Row, Below};
-ghost use Rattle.summary.specs.Kinds.{PushFits};
+ghost use Rattle.summary.specs.Cells.{Ready, gone, lane, size, first, second, cross_by};
+ghost use Rattle.summary.specs.Edges.{Relaxed, Row, Below};
+ghost use Rattle.summary.specs.Shapes.{sizes};
 
 use crate::cells::{first_of, gone_at, lane_cell, second_of};
 use crate::edges::long_row;
-use crate::{Push, Shape, push_of};
+use crate::transition::{Push, Transition};
 use model::Right;
 
-// The edges of a rule from control p to control h whose first turn end is the one of lane l. How many cells have fallen.
-pub fn cross_rule(
-    table: &mut [u16],
-    l: usize,
-    shape: Shape,
-    p: usize,
-    top: usize,
-    h: usize,
-    right: Right,
-) -> u64
-    requires fact_1 { (size shape.controls ≤ length table.old) × (l < 16) × ShapeFits shape × (p < shape.controls) × (top ≤ 15)
-        × (h < shape.controls) × RightFits right }
-    requires fact_2 { Counts (size shape.controls) table.old }
-    ensures { Relaxed (cross_by shape l p top h right) table.old table.new result × (result ≤ 2048) }
+// The edges of a transition whose first turn end is the one of lane l. How many cells have fallen.
+pub fn cross_rule(table: &mut [u16], l: usize, step: Transition) -> u64
+    requires ready { Ready step.shape.controls (size step.shape.controls) table.old }
+    requires lane { l < 16 }
+    ensures { Relaxed (cross_by (sizes step.shape) l step.from step.symbol step.to step.right) table.old table.new result
+        × (result ≤ 2048) }
 {
-    match right {
+    match step.right {
         Right::Remove => 0,
         Right::Swap(_) => 0,
-        Right::Push(a, b) => {
-            let push = push_of(p, top, h, a, b);
-            cross_pushes(table, l, shape, push)
-        }
+        Right::Push(a, b) => cross_pushes(table, l, Push { step, a, b }),
     }
 }
 
 // The edges of a push, at each control q where the first symbol goes.
-fn cross_pushes(table: &mut [u16], l: usize, shape: Shape, push: Push) -> u64
-    requires fact_1 { (size shape.controls ≤ length table.old) × (l < 16) × ShapeFits shape × PushFits shape.controls push }
-    requires fact_2 { Counts (size shape.controls) table.old }
-    ensures { Relaxed (Below shape.controls (λ q. Row 1 (lane (second shape.controls) push.from push.symbol 0)
-        (lane (first shape.controls) push.to push.a (gone q) + l) (lane (first shape.controls) q push.b 0) (shape.dests * 16)))
+fn cross_pushes(table: &mut [u16], l: usize, push: Push) -> u64
+    requires ready { Ready push.step.shape.controls (size push.step.shape.controls) table.old }
+    requires lane { l < 16 }
+    ensures { Relaxed (Below push.step.shape.controls (λ q.
+        Row 1 (lane (second push.step.shape.controls) push.step.from push.step.symbol 0)
+        (lane (first push.step.shape.controls) push.step.to push.a.0 (gone q) + l)
+        (lane (first push.step.shape.controls) q push.b.0 0) (push.step.shape.dests * 16)))
         table.old table.new result
-        × (result ≤ 256 * shape.controls) }
+        × (result ≤ 256 * push.step.shape.controls) }
 {
-    let controls = shape.controls;
-    let first = first_of(controls);
-    let second = second_of(controls);
+    let step = push.step;
+    let shape = step.shape;
+    let first = first_of(shape.controls);
+    let second = second_of(shape.controls);
     let mut changes = 0;
-    let mut q = 0;
-    while q < controls {
+    for q in 0..shape.controls {
         changes += long_row(
             table,
             1,
-            lane_cell(second, push.from, push.symbol, 0),
-            lane_cell(first, push.to, push.a, gone_at(q)) + l,
-            lane_cell(first, q, push.b, 0),
+            lane_cell(second, step.from, step.symbol, 0),
+            lane_cell(first, step.to, push.a.0 as usize, gone_at(q)) + l,
+            lane_cell(first, q, push.b.0 as usize, 0),
             shape.dests * 16,
         );
-        q += 1;
     }
     changes
 }

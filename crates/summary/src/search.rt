@@ -1,98 +1,96 @@
 // The search: edges of a kind are relaxed for all rules of a thread, until nothing changes.
-ghost use Rattle.std.specs.Prelude.{◌≡◌, ◌+◌, ◌*◌, ◌≤◌, ◌<◌, length};
-ghost use Rattle.summary.specs.Cells.{size, number_of, flags_of, ShapeFits, RulesFrom, Rules};
-ghost use Rattle.summary.specs.Edges.{Counts, Relaxed, Closes};
-ghost use Rattle.summary.specs.Kinds.{RuleEdges, KindFits, RuleIn, RulesIn, part_end};
+ghost use Rattle.summary.specs.Kinds.{KindFits};
+ghost use Rattle.summary.specs.Props.{kind_prop};
 
+use crate::Kind;
+use crate::cells::{flags_of, number_of};
 use crate::cross::cross_rule;
 use crate::lanes::lane_rule;
 use crate::plain::plain_rule;
-use crate::{Kind, Shape};
-use model::{Rule, Thread};
+use crate::pushdown::Pushdown;
+use crate::transition::Transition;
+use model::Rule;
 
-// Passes until one changes nothing.
-pub fn settle(table: &mut [u16], kind: Kind, shape: Shape, th: Thread)
-    requires fact_1 { (size shape.controls ≤ length table.old) × ShapeFits shape × KindFits shape.controls kind × RulesIn shape.controls th }
-    requires fact_2 { Counts (part_end shape.controls kind) table.old }
-    ensures { Closes (Rules th shape.controls (RuleEdges kind shape)) table.old table.new }
-{
-    let mut changes = 1;
-    while changes != 0 {
-        changes = pass(table, kind, shape, th);
-    }
+// A search of one kind of edges of a pushdown system.
+#[derive(Clone, Copy)]
+pub struct Search<'a> {
+    pub system: &'a Pushdown,
+    pub kind: Kind,
+    ghost kind_in: { KindFits system.now.shape.controls kind } by { kind_prop system.now.shape.controls kind },
 }
 
-// The edges of all rules, once, from each control that has their before state. How many cells have fallen. The loop over rules is
-// inside, so that the compiler has nothing to prepare for a rule before its loop.
-pub fn pass(table: &mut [u16], kind: Kind, shape: Shape, th: Thread) -> u64
-    requires fact_1 { (size shape.controls ≤ length table.old) × ShapeFits shape × KindFits shape.controls kind × RulesIn shape.controls th }
-    requires fact_2 { Counts (part_end shape.controls kind) table.old }
-    ensures { Relaxed (Rules th shape.controls (RuleEdges kind shape)) table.old table.new result × (result ≤ 4224 * 64 * 2) }
-{
-    let flags = flags_of(shape.controls);
-    let mut changes = 0;
-    let mut f = 0;
-    while f < flags {
-        changes += pass_from(table, kind, shape, th, f);
-        f += 1;
-    }
-    changes
-}
+impl Search<'_> {
+    ghost use Rattle.std.specs.Prelude.{◌≡◌, ◌+◌, ◌*◌, ◌≤◌, ◌<◌};
+    ghost use Rattle.summary.specs.Cells.{Ready, number_of, flags_of};
+    ghost use Rattle.summary.specs.Edges.{Relaxed, Closes};
+    ghost use Rattle.summary.specs.Kinds.{RuleEdges, RuleIn};
+    ghost use Rattle.summary.specs.Searches.{controls, end, EdgesFrom, AllEdges};
+    ghost use Rattle.summary.specs.Shapes.{sizes};
 
-// The same from the controls with flag f.
-fn pass_from(table: &mut [u16], kind: Kind, shape: Shape, th: Thread, f: usize) -> u64
-    requires fact_1 { (size shape.controls ≤ length table.old) × ShapeFits shape × KindFits shape.controls kind × RulesIn shape.controls th
-        × (f < flags_of shape.controls) × (f ≤ 1) }
-    requires fact_2 { Counts (part_end shape.controls kind) table.old }
-    ensures { Relaxed (RulesFrom th (RuleEdges kind shape) f) table.old table.new result × (result ≤ 4224 * 64) }
-{
-    let count = th.count;
-    let marks = th.held;
-    let mut changes = 0;
-    let mut i = 0;
-    while i < count {
-        let rule = th.rules[i];
-        let held = model::is_held(marks, i);
-        changes += relax(table, kind, shape, f, rule, held);
-        i += 1;
+    // Passes until one changes nothing.
+    pub fn settle(self, table: &mut [u16])
+        requires { Ready (controls self) (end self) table.old }
+        ensures { Closes (AllEdges self.entry) table.old table.new }
+    {
+        let mut changes = 1;
+        // a `while`: how many passes it takes shows as they are made
+        while changes != 0 {
+            changes = self.pass(table);
+        }
     }
-    changes
-}
 
-// The edges of a rule from its control with flag f.
-fn relax(table: &mut [u16], kind: Kind, shape: Shape, f: usize, r: Rule, held: bool) -> u64
-    requires fact_1 { (size shape.controls ≤ length table.old) × ShapeFits shape × KindFits shape.controls kind
-        × RuleIn shape.controls (number_of held r.after.0) r × (f < flags_of shape.controls) × (f ≤ 1) }
-    requires fact_2 { Counts (part_end shape.controls kind) table.old }
-    ensures { Relaxed (RuleEdges kind shape (4 * f + r.before.0) r.symbol.0 (number_of held r.after.0) r.right)
-        table.old table.new result
-        × (result ≤ 4224) }
-{
-    let p = 4 * f + r.before.0 as usize;
-    let top = r.symbol.0 as usize;
-    let h = number_of(held, r.after.0);
-    let right = r.right;
-    match kind {
-        Kind::Plain => plain_rule(table, shape, p, top, h, right),
-        Kind::Lanes(base) => lane_rule(table, base, shape, p, top, h, right),
-        Kind::Cross(l) => cross_rule(table, l, shape, p, top, h, right),
+    // The edges of all rules, once, from each control that has their before state. How many cells have fallen. The loop over rules
+    // is inside, so that the compiler has nothing to prepare for a rule before its loop.
+    pub fn pass(self, table: &mut [u16]) -> u64
+        requires { Ready (controls self) (end self) table.old }
+        ensures { Relaxed (AllEdges self.entry) table.old table.new result × (result ≤ 4224 * 64 * 2) }
+    {
+        let flags = flags_of(self.system.shape.controls);
+        let mut changes = 0;
+        for f in 0..flags {
+            changes += self.pass_from(table, f);
+        }
+        changes
     }
-}
 
-// The number of the control with a shared state, after a held step or another.
-fn number_of(held: bool, state: u8) -> usize
-    ensures { result ≡ number_of held state }
-{
-    if held {
-        4 + state as usize
-    } else {
-        state as usize
+    // The same from the controls with flag f.
+    fn pass_from(self, table: &mut [u16], f: usize) -> u64
+        requires ready { Ready (controls self) (end self) table.old }
+        requires flag { f < flags_of (controls self) }
+        ensures { Relaxed (EdgesFrom self.entry f) table.old table.new result × (result ≤ 4224 * 64) }
+    {
+        let th = &self.system.th;
+        let marks = th.held;
+        let mut changes = 0;
+        for i in 0..th.count {
+            let rule = th.rules[i];
+            let held = model::is_held(marks, i);
+            changes += self.relax(table, f, rule, held);
+        }
+        changes
     }
-}
 
-// How many controls have the same shared state.
-fn flags_of(controls: usize) -> usize
-    ensures { (result ≡ flags_of controls) × (result ≤ 2) }
-{
-    if 4 < controls { 2 } else { 1 }
+    // The edges of a rule from its control with flag f.
+    fn relax(self, table: &mut [u16], f: usize, r: Rule, held: bool) -> u64
+        requires ready { Ready (controls self) (end self) table.old }
+        requires flag { f < flags_of (controls self) }
+        requires rule { RuleIn (controls self) (number_of held r.after.0) r }
+        ensures { Relaxed (RuleEdges self.entry.kind (sizes self.entry.system.now.shape) (4 * f + r.before.0) r.symbol.0
+            (number_of held r.after.0) r.right)
+            table.old table.new result
+            × (result ≤ 4224) }
+    {
+        let step = Transition {
+            shape: self.system.shape,
+            from: 4 * f + r.before.0 as usize,
+            symbol: r.symbol.0 as usize,
+            to: number_of(held, r.after.0),
+            right: r.right,
+        };
+        match self.kind {
+            Kind::Plain => plain_rule(table, step),
+            Kind::Lanes(base) => lane_rule(table, base, step),
+            Kind::Cross(l) => cross_rule(table, l, step),
+        }
+    }
 }

@@ -5,6 +5,7 @@ use Prim.Native.Nat.{ℕ, zero, suc, ◌+◌, ◌-◌, ◌/◌, ◌%◌, ◌≤�
 use native.Mathlib.Omega.{arith}
 use lib.ListN.{length, length-append, length-replicate}
 use borrow.Author.Tests.{lt-ltb, le-ltb}
+use Rattle.text.proofs.Numbers.{some_digit}
 use Rattle.text.specs.Text.{decimal_in, decimal, blanks, right_aligned, left_aligned}
 
 -- A number of one digit ..
@@ -55,3 +56,6 @@ length_right w l h = simp (length-append, length-replicate) (omega arith)
 pub length_left : (w : ℕ) (l : List ℕ) → length l ≤ w → length (left_aligned w l) ≡ w
 unfolding left_aligned
 length_left w l h = simp (length-append, length-replicate) (omega arith)
+
+-- What the room for a number in columns follows from.
+pub ruleset columns = (some_digit, one_fewer, length_right, length-replicate, length-append)

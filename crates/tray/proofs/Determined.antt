@@ -6,16 +6,19 @@ use native.Mathlib.Omega.{arith}
 use contract.Lifetimes.{Lfts}
 use denote.Ref.{Bor}
 use lib.ListN.{length}
-use Rattle.tray.specs.declared.FirstReading.{FirstReading}
+use Rattle.std.specs.Prelude.{Option, Result}
+use Rattle.model.specs.declared.refusal.Refusal.{Refusal}
+use Rattle.model.proofs.Refusals.{told_names}
+use Rattle.record.specs.declared.Front.{Front}
 use Rattle.tray.proofs.first.Reads as first
 use Rattle.tray.proofs.rest.Reads as rest
 
 -- Each contract is `Post`, of the arguments, the answer and the arguments at exit. Two results that meet it are the same: it determines ..
 
 -- .. the answer of `first` with its model, ..
-pub first_determined : (κs : Lfts 1) (tray : Bor (List ℕ)) (r s : FirstReading)
+pub first_determined : (κs : Lfts 1) (tray : Bor (List ℕ)) (r s : Result (Option Front) Refusal)
     → first.Post κs (tray, tt) r (tray, tt) → first.Post κs (tray, tt) s (tray, tt) → r ≡ s
-first_determined κs tray r s p q = p.0 ∙ sym q.0
+first_determined κs tray r s p q = told_names r s (p.0 ∙ sym q.0)
 
 -- .. and the slice that `rest` answers: where it starts, block and offset, and the bytes it has.
 pub rest_determined : (κs : Lfts 1) (tray r s : Bor (List ℕ))

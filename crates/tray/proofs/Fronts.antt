@@ -7,18 +7,16 @@ use native.Mathlib.Omega.{arith}
 use lib.ListN.{length, get_or, take, drop, length-append, length-drop, drop_of_length-le}
 use lib.Seq.{take-append_seam}
 use Rattle.model.specs.declared.Model.{Model}
+use Rattle.std.specs.Prelude.{None, Some}
+use Rattle.model.specs.Results as results
 use Rattle.model.specs.Results.{refused, accepted}
 use Rattle.model.proofs.Results.{apart}
-use Rattle.record.specs.declared.Front.{Front}
-use Rattle.record.specs.declared.Taken.{Taken}
-use Rattle.record.specs.declared.Taken.TheVariants as taken
-use Rattle.record.specs.Held.{Reads, taken_with, front_of, over, reading_of}
+use Rattle.record.specs.Held.{Reads}
 use Rattle.record.specs.Reader.{parse_byte, parse_head, parse_front}
 use Rattle.record.proofs.Records.{front_forth, read_alone}
 use Rattle.writer.specs.Writer.{record_of}
-use Rattle.tray.specs.declared.FirstReading.{FirstReading}
-use Rattle.tray.specs.declared.FirstRecord.TheVariants as answer
-use Rattle.tray.specs.Answer.{first_reading_of, AtFront, Stands}
+use Rattle.tray.proofs.Parts.{to_end}
+use Rattle.tray.specs.Answer.{first_reading_of, AtFront}
 use Rattle.tray.specs.Tray.{first, tray_by, tray_of, rest_of}
 
 -- No record is read from no bytes, ..
@@ -67,45 +65,29 @@ module _ (s : List ℕ) {m : Model} {n : ℕ} (small : get_or s 0 0 < 256) (h : 
         rest = rw (first_given s e);
       }
 
--- What the reader of the front tells of a tray, by its answer.
-module _ (s : List ℕ) (f : Front) (told : Reads s (front_of f) (parse_front s) × (f.model ≡ (reading_of (parse_front s)).model)) where
-  got : {t : Taken} → f.answer ≡ t → parse_front s ≡ over s (taken_with f.model t)
-  got a = rw a at (sym told.0.same)
+-- Without a byte there is no record ..
+pub none_told : (s : List ℕ) → length s ≡ 0 → results.accepted None ≡ first_reading_of (tray_of s)
+unfolding tray_of
+none_told [] h = refl
+none_told (b ∷ s) h = absurd (omega arith)
 
-  -- What is taken lies within the tray.
-  pub within : {n : ℕ} → f.answer ≡ taken.At n → n ≤ length s
-  within a = rw a at told.0.within
+-- .. and else one that is refused ..
+pub refused_told : (s : List ℕ) {n : ℕ} → (length s ≡ 0 → ⊥) → refused n ≡ parse_front s → refused n ≡ first_reading_of (tray_of s)
+refused_told s h e = rw (some s h, ← e)
 
-  -- What the call for the first record promises.
-  abbrev Told : FirstReading → Type 0
-  Told r = (r ≡ first_reading_of (tray_of s)) × Stands r s
+-- .. or accepted, and then it stands at the front ..
+module _ (s : List ℕ) {m : Model} {n : ℕ} (told : Reads s (accepted (m, n)) (parse_front s)) where
+  pub accepted_told : get_or s 0 0 < 256 → results.accepted (Some (record { model = m; size = n })) ≡ first_reading_of (tray_of s)
+  accepted_told small = rw (first_given s (sym told.same), size s small told.within (sym told.same))
 
-  -- Without a byte there is no record ..
-  pub none_told : length s ≡ 0 → Told (record { answer = answer.None; model = f.model })
-  unfolding tray_of reading_of
-  none_told h = (go s h told.1, tt)
-    where
-      go : (l : List ℕ) {m : Model} → length l ≡ 0 → m ≡ (reading_of (parse_front l)).model
-          → record { answer = answer.None; model = m } ≡ first_reading_of (tray_of l)
-      go [] z e = rw (e, empty)
-      go (b ∷ l) z e = absurd (omega arith)
+  pub stands : get_or s 0 0 < 256 → AtFront n s m
+  stands small = at_front s small told.within (sym told.same)
 
-  -- .. and else one that is accepted ..
-  pub accepted_told : {n : ℕ} → get_or s 0 0 < 256 → f.answer ≡ taken.At n
-      → Told (record { answer = answer.Accepted n; model = f.model })
-  accepted_told small a =
-      (rw (first_given s (got a), size s small (within a) (got a)), at_front s small (within a) (got a))
+  -- .. and the rest lies behind it.
+  pub left : take (length s - n) (drop n s) ≡ rest_of (tray_of s)
+  left = rw (to_end s n told.within, first_given s (sym told.same))
 
-  -- .. or refused.
-  pub refused_told : {n : ℕ} → (length s ≡ 0 → ⊥) → f.answer ≡ taken.Refused n
-      → Told (record { answer = answer.Refused n; model = f.model })
-  unfolding reading_of
-  refused_told h a = (rw (told.1, some s h, got a), tt)
-
-  -- The rest lies behind what is taken ..
-  pub left : {n : ℕ} → f.answer ≡ taken.At n → drop n s ≡ rest_of (tray_of s)
-  left a = rw (first_given s (got a))
-
-  -- .. and nothing is left after a refusal.
-  pub nothing_left : {n : ℕ} → f.answer ≡ taken.Refused n → drop (length s) s ≡ rest_of (tray_of s)
-  nothing_left a = drop_of_length-le s {i = length s} (omega arith) ∙ sym (none_left s (got a))
+-- Nothing is left after a refusal.
+pub nothing_left : (s : List ℕ) {n : ℕ} → refused n ≡ parse_front s
+    → take (length s - length s) (drop (length s) s) ≡ rest_of (tray_of s)
+nothing_left s e = to_end s (length s) (omega arith) ∙ drop_of_length-le s {i = length s} (omega arith) ∙ sym (none_left s (sym e))

@@ -4,19 +4,17 @@ use mathlib.Core.Path.{◌≡◌, refl}
 use Prim.Native.Nat.{ℕ, ◌+◌, ◌-◌, ◌≤◌}
 use native.Mathlib.Omega.{arith}
 use lib.ListN.{length, take, drop, length-drop}
+use lib.Seq.{take_all}
 use denote.Bor.{Bor}
-use Rattle.record.proofs.Fronts.{to_end}
 use Rattle.tray.specs.Answer.{LastPart}
-use Rattle.tray.specs.Tray.{tray_of, rest_of}
 
--- What the call for the rest promises.
-abbrev Told : Bor (List ℕ) → Bor (List ℕ) → Type 0
-Told tray r = (r.now ≡ rest_of (tray_of tray.now)) × LastPart tray r
+-- The bytes from a place to the end are what is left there.
+pub to_end : (s : List ℕ) (at : ℕ) → at ≤ length s → take (length s - at) (drop at s) ≡ drop at s
+to_end s at h = take_all (length s - at) (drop at s) (simp length-drop (omega arith))
 
--- The part from n on meets it where the bytes from n on are the rest.
-pub rest_told : (tray : Bor (List ℕ)) {n : ℕ} → n ≤ length tray.now → drop n tray.now ≡ rest_of (tray_of tray.now)
-    → Told tray (record { ref_ptr = (tray.ref_ptr.0, n + tray.ref_ptr.1); now = take (length tray.now - n) (drop n tray.now) })
-rest_told tray {n} h e =
-    let part = to_end tray.now n h in
+-- The part from n on is the last part.
+pub last_part : (tray : Bor (List ℕ)) (n : ℕ) → n ≤ length tray.now
+    → LastPart tray (record { ref_ptr = (tray.ref_ptr.0, n + tray.ref_ptr.1); now = take (length tray.now - n) (drop n tray.now) })
+last_part tray n h =
     let size : length (drop n tray.now) ≡ length tray.now - n = length-drop n tray.now in
-    rw part (e, record { block = refl; end = omega arith })
+    rw (to_end tray.now n h) (record { block = refl; end = omega arith })

@@ -1,22 +1,21 @@
 -- What the two calls make of a tray: the reading of its first record, and the rest as a part of the caller's bytes.
-use Rattle.std.specs.Prelude.{List, [], ◌≡◌, ℕ, ◌+◌, length, take, drop}
+use Rattle.std.specs.Prelude.{List, [], ◌≡◌, ℕ, ◌+◌, length, take, drop, Option, None, Some, Result, Ok, Err}
 use Rattle.std.specs.Borrow.{Bor}
 use Rattle.model.specs.declared.Model.{Model}
+use Rattle.model.specs.declared.refusal.Refusal.{Refusal}
+use Rattle.model.specs.Results as results
 use Rattle.model.specs.Results.{accepted}
-use Rattle.model.specs.Zero.{zero_model}
+use Rattle.record.specs.declared.Front.{Front}
 use Rattle.record.specs.Kept.{Kept}
 use Rattle.record.specs.Reader.{read_of}
 use Rattle.writer.specs.Writer.{record_of}
-use Rattle.tray.specs.declared.FirstReading.{FirstReading}
-use Rattle.tray.specs.declared.FirstRecord.{FirstRecord}
-use Rattle.tray.specs.declared.FirstRecord.TheVariants as answer
 use Rattle.tray.specs.Tray.{Tray, none, refused, first, tray_of, rest_of}
 
--- What is answered: the model of an accepted record and how many bytes its record has; none or the refusal beside the zero model.
-abbrev pub first_reading_of : Tray → FirstReading
-first_reading_of none = record { answer = answer.None; model = zero_model }
-first_reading_of (refused n) = record { answer = answer.Refused n; model = zero_model }
-first_reading_of (first m rest) = record { answer = answer.Accepted (length (record_of m)); model = m }
+-- What is answered: the model of an accepted record and how many bytes its record has; none, or the refusal.
+abbrev pub first_reading_of : Tray → results.Result (Option Front)
+first_reading_of none = results.accepted None
+first_reading_of (refused n) = results.refused n
+first_reading_of (first m rest) = results.accepted (Some (record { model = m; size = length (record_of m) }))
 
 -- A record of n bytes stands at the front of a tray: by themselves they are read as the model, which keeps them, and the bytes
 -- behind them are the rest.
@@ -26,14 +25,10 @@ pub record AtFront (n : ℕ) (tray : List ℕ) (m : Model) : Type 0 where
   pub rest : drop n tray ≡ rest_of (tray_of tray)
 
 -- What an answer promises of the tray: an accepted record stands at its front, with as many bytes as it says.
-abbrev pub stands_by : FirstRecord → Model → List ℕ → Type 0
-stands_by answer.None m tray = Unit {0}
-stands_by (answer.Refused n) m tray = Unit {0}
-stands_by (answer.Accepted n) m tray = AtFront n tray m
-
--- The same of a reading.
-abbrev pub Stands : FirstReading → List ℕ → Type 0
-Stands r tray = stands_by r.answer r.model tray
+abbrev pub Stands : Result (Option Front) Refusal → List ℕ → Type 0
+Stands (Ok (Some f)) tray = AtFront f.size tray f.model
+Stands (Ok None) tray = Unit {0}
+Stands (Err r) tray = Unit {0}
 
 -- A slice is the last part of another, in place and not a copy: it lies in the same block and ends at the same byte.
 pub record LastPart (whole part : Bor (List ℕ)) : Type 0 where

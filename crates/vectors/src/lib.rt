@@ -1,11 +1,24 @@
-// What the programs that compare with stored cases share: a tally, a report, and parts of a file of cases.
+// What the programs that compare with stored cases share: a tally, a report, the reading of files of cases, and what a store holds.
 #![tactic(auto)]
 
-ghost use Rattle.std.specs.Prelude.{◌≤◌, ◌<◌, ◌+◌, length};
+ghost use Rattle.model.specs.Walk.{other, thread_of};
+ghost use Rattle.record.specs.Held.{reading_of};
+ghost use Rattle.record.specs.Reader.{read_of};
+ghost use Rattle.std.specs.Fn.{FnOnceReturnsAtMut};
+ghost use Rattle.std.specs.Prelude.{◌+◌, ◌≡◌, ◌≤◌, cond, count_by, length, not};
+ghost use Rattle.vectors.specs.Stores.{answer_of, model_or_zero};
+ghost use Rattle.vectors.specs.Tallies.{count};
 
-use std::io::{ErrorKind, Read};
+use model::{Model, Refusal, Thread, ThreadId};
+use std::io::Read;
 use std::rt::Files;
-use std::{fs, io};
+use std::{fmt, fs, io};
+
+mod cases;
+mod stores;
+
+pub use cases::{Cases, corpus};
+pub use stores::{KEPT, filled, holds, puts, puts_tightly};
 
 // The records of document 01's models: One, Two, and Two at K=1.
 pub const ONE: [u8; 8] = *b"\x4B\x02\x01\x01\x01\x01\x00\x01";
@@ -23,178 +36,87 @@ pub struct Tally {
     pub differ: u64,
 }
 
-// One case of a file: whether it agrees with what is stored, and the place behind it.
-#[derive(Clone, Copy)]
-pub struct Case {
-    pub agrees: bool,
-    pub next: usize,
-}
-
-// A part of a file: from start up to, not including, end.
-#[derive(Clone, Copy)]
-pub struct Span {
-    pub start: usize,
-    pub end: usize,
-}
-
 impl Tally {
-    pub fn new() -> Self {
+    pub fn new() -> Self
+        ensures compared { result.compared ≡ 0 }
+        ensures differ { result.differ ≡ 0 }
+    {
         Tally {
             compared: 0,
             differ: 0,
         }
     }
 
-    // One answer more.
-    pub fn counted(self, agrees: bool) -> Self {
+    // Of some answers, whether each agrees.
+    pub fn of(answers: &[bool]) -> Self
+        ensures compared { result.compared ≡ length answers.now }
+        ensures differ { result.differ ≡ count_by not answers.now }
+    {
         Tally {
-            compared: next(self.compared),
-            differ: if agrees {
-                self.differ
-            } else {
-                next(self.differ)
-            },
+            compared: answers.len() as u64,
+            differ: answers.iter().filter(|agrees| !**agrees).count() as u64,
+        }
+    }
+
+    // One answer more.
+    pub fn counted(self, agrees: bool) -> Self
+        ensures compared { result.compared ≡ count (self.compared + 1) }
+        ensures differ { result.differ ≡ count (self.differ + cond agrees 0 1) }
+    {
+        Tally {
+            compared: self.compared.saturating_add(1),
+            differ: self.differ.saturating_add(u64::from(!agrees)),
+        }
+    }
+
+    // These answers and those of another.
+    pub fn and(self, other: Self) -> Self
+        ensures compared { result.compared ≡ count (self.compared + other.compared) }
+        ensures differ { result.differ ≡ count (self.differ + other.differ) }
+    {
+        Tally {
+            compared: self.compared.saturating_add(other.compared),
+            differ: self.differ.saturating_add(other.differ),
         }
     }
 
     // A line such as `records.bin: 2200 compared, 0 differ`.
-    pub fn report(self, rt: &impl Print, name: &[u8]) -> io::Result<()> {
-        let compared = self.compared;
-        let differ = self.differ;
-        rt.write_all(name)?;
-        println!(rt; ": {compared} compared, {differ} differ")
+    pub fn report(self, rt: &impl Print, name: &str) -> io::Result<()> {
+        println!(rt; "{name}: {self}")
     }
 }
 
-fn next(n: u64) -> u64 {
-    if n < u64::MAX { n + 1 } else { n }
-}
-
-// The byte at a place, or 0 past the end.
-pub fn byte_at(s: &[u8], at: usize) -> u8 {
-    if at < s.len() { s[at] } else { 0 }
-}
-
-fn wide(b: u8) -> usize
-    ensures { result < 256 }
-{
-    b as usize
-}
-
-// A number of two bytes, the low one first; 0 past the end.
-pub fn number_at(s: &[u8], at: usize) -> usize
-    ensures { result < 65536 }
-{
-    if at < s.len() {
-        wide(s[at]) + 256 * wide(byte_at(s, at + 1))
-    } else {
-        0
+impl fmt::Display for Tally {
+    fn fmt<W: fmt::Write>(&self, f: &mut fmt::Formatter<W>) -> fmt::Result {
+        write!(f, "{} compared, {} differ", self.compared, self.differ)
     }
 }
 
-// Where the part at a place lies: its length in two bytes, and then so many bytes. What a file cut short lacks is left out.
-pub fn part_at(s: &[u8], at: usize) -> Span
-    ensures { (result.start ≤ result.end) × (result.end ≤ length s.now) }
+// Compares all cases of a file, which the store has room for, and reports. What a file holds and what is printed, no clause says.
+pub fn file<F: Fn(&mut Cases) -> bool>(
+    rt: &(impl Files + Print + Eprint),
+    name: &str,
+    store: &mut [u8],
+    case: F,
+) -> io::Result<()>
+    requires { F.IsAlwaysCallable case }
+    ensures { length store.new ≡ length store.old }
 {
-    let n = s.len();
-    if n <= at {
-        return Span { start: n, end: n };
-    }
-    part_of(n, at, 2, number_at(s, at))
+    corpus(load(rt, name, store), case).report(rt, name)
 }
 
-// The bytes of the part at a place.
-pub fn part(s: &[u8], at: usize) -> &[u8] {
-    let span = part_at(s, at);
-    let start = span.start;
-    let end = span.end;
-    &s[start..end]
-}
-
-// The place behind it.
-pub fn past(s: &[u8], at: usize) -> usize
-    ensures { result ≤ length s.now }
-{
-    let span = part_at(s, at);
-    span.end
-}
-
-// The same where the length has four bytes.
-fn long_part_at(s: &[u8], at: usize) -> Span
-    ensures { (result.start ≤ result.end) × (result.end ≤ length s.now) }
-{
-    let n = s.len();
-    if n <= at {
-        return Span { start: n, end: n };
-    }
-    part_of(n, at, 4, number_at(s, at) + 65536 * number_at(s, at + 2))
-}
-
-pub fn long_part(s: &[u8], at: usize) -> &[u8] {
-    let span = long_part_at(s, at);
-    let start = span.start;
-    let end = span.end;
-    &s[start..end]
-}
-
-pub fn past_long(s: &[u8], at: usize) -> usize {
-    let span = long_part_at(s, at);
-    span.end
-}
-
-// The part of `size` bytes behind a length that stands in `bytes` bytes at a place of a file of n bytes.
-fn part_of(n: usize, at: usize, bytes: usize, size: usize) -> Span
-    requires { at < n }
-    ensures { (result.start ≤ result.end) × (result.end ≤ n) }
-{
-    if n - at <= bytes {
-        return Span { start: n, end: n };
-    }
-    let start = at + bytes;
-    if size <= n - start {
-        Span {
-            start: start,
-            end: start + size,
+// Reads a file of the program's folder into a store, and answers its bytes. One that cannot be opened is named on standard error, and has
+// none.
+pub fn load<'a>(rt: &(impl Files + Eprint), path: &str, store: &'a mut [u8]) -> &'a [u8] {
+    match fs::open(rt, path) {
+        Ok(mut file) => {
+            let size = fill(&mut file, store);
+            &store[..size]
         }
-    } else {
-        Span {
-            start: start,
-            end: n,
-        }
-    }
-}
-
-// Every byte is b.
-pub fn filled(s: &[u8], b: u8) -> bool {
-    let mut i = 0;
-    while i < s.len() {
-        if s[i] != b {
-            return false;
-        }
-        i += 1;
-    }
-    true
-}
-
-// Reads a file of the program's folder into a store, and answers how many bytes it has. One that cannot be opened is named on standard
-// error, and has none.
-pub fn load(rt: &(impl Files + Eprint), path: &[u8], store: &mut [u8]) -> usize
-    ensures { result ≤ length store.new }
-{
-    match open(rt, path) {
-        Ok(mut file) => fill(&mut file, store),
         Err(error) => {
-            let _ = eprintln!(rt; "{}: {error}", path.escape_ascii());
-            0
+            let _ = eprintln!(rt; "{path}: {error}");
+            &[]
         }
-    }
-}
-
-// A path is text.
-fn open<R: Files>(rt: &R, path: &[u8]) -> io::Result<R::File> {
-    match str::from_utf8(path) {
-        Ok(text) => fs::open(rt, text),
-        Err(_) => Err(io::Error::from(ErrorKind::InvalidInput)),
     }
 }
 
@@ -203,6 +125,7 @@ fn fill(input: &mut impl Read, store: &mut [u8]) -> usize
     ensures { result ≤ length store.new }
 {
     let mut size = 0;
+    // a `while`: each read says how far it came
     while size < store.len() {
         match input.read(&mut store[size..]) {
             Ok(0) | Err(_) => return size,
@@ -210,4 +133,34 @@ fn fill(input: &mut impl Read, store: &mut [u8]) -> usize
         }
     }
     size
+}
+
+// The number of an answer in the files of cases: a refusal's, or 0 where there is none.
+pub fn number<T: Drop>(answer: Result<T, Refusal>) -> u8
+    ensures { result ≡ answer_of answer }
+{
+    match answer {
+        Ok(_) => 0,
+        Err(refusal) => refusal.number(),
+    }
+}
+
+// The model of a record. One that is refused has none, and the model without states stands for it.
+pub fn model_of(bytes: &[u8]) -> Model
+    ensures { result ≡ model_or_zero (reading_of (read_of bytes.now)) }
+{
+    record::read(bytes).unwrap_or(model::zero_model())
+}
+
+// A model with a change of one of its threads.
+pub fn with<F: FnOnce(&mut Thread)>(mut m: Model, id: ThreadId, change: F) -> Model
+    requires { F.IsAlwaysCallable change }
+    ensures changed { FnOnceReturnsAtMut F.FnOnce change (thread_of id m) tt (thread_of id result) }
+    ensures kept { thread_of (other id) result ≡ thread_of (other id) m }
+{
+    match id {
+        ThreadId::A => change(&mut m.a),
+        ThreadId::B => change(&mut m.b),
+    }
+    m
 }

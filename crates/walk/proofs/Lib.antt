@@ -1,4 +1,3 @@
-pub mod Moves
 pub mod Schedules
 pub mod Stacks
 pub mod Stepping

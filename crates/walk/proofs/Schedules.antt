@@ -16,8 +16,6 @@ use Rattle.walk.specs.Stack.{config_of, walk_on}
 -- Where the walk is before the step at place i, and that the rest of it comes to what the whole does.
 pub record Going (m : Model) (l : List ℕ) (w : Walk) (a b : List ℕ) (v : Walk) (c d : List ℕ) (i : ℕ) : Type 0 where
   pub place : i ≤ length l / 2
-  pub first : length c ≡ length a
-  pub second : length d ≡ length b
   pub one : v.a ≤ w.a + i
   pub two : v.b ≤ w.b + i
   pub rest : walk_on m (config_of w a b) (steps_of l) ≡ walk_on m (config_of v c d) (steps_from l i)
@@ -27,14 +25,12 @@ module _ {m : Model} {l : List ℕ} {w : Walk} {a b : List ℕ} {v : Walk} {c d 
   -- A step that is made leaves the others to be walked ..
   pub goes_on : i < length l / 2 → {u : Walk} {c' d' : List ℕ}
       → accepted (config_of u c' d') ≡ step_from m (config_of v c d) (step_at l i)
-      → (u.a ≤ v.a + 1) × (u.b ≤ v.b + 1) → length c' ≡ length c → length d' ≡ length d
+      → (u.a ≤ v.a + 1) × (u.b ≤ v.b + 1)
       → Going m l w a b u c' d' (i + 1)
   unfolding walk_on
-  goes_on h p k x y =
+  goes_on h p k =
       record {
         place = omega arith;
-        first = x ∙ g.first;
-        second = y ∙ g.second;
         one = omega arith;
         two = omega arith;
         rest = g.rest ∙ rw (first_step l i h, ← p);

@@ -1,148 +1,124 @@
 // The first of the shortest schedules along a line: each thread's first run along it, then both merged by turn.
 #![tactic(auto)]
 
-ghost use Rattle.std.specs.Prelude.{true, ◌≡◌, suc, ◌+◌, ◌*◌, ◌^◌, ◌≤◌, ◌<◌, length};
+ghost use Rattle.std.specs.Prelude.{true, ◌≡◌, ℕ, suc, Some, None, ◌+◌, ◌*◌, ◌^◌, ◌≤◌, ◌<◌, length};
 ghost use Rattle.model.specs.First.{First};
 ghost use Rattle.model.specs.Fits.{Fits};
 ghost use Rattle.model.specs.Lines.{digits};
 ghost use Rattle.model.specs.Runs.{EndsUnder};
 ghost use Rattle.model.specs.Schedules.{most_bytes, Stored};
-ghost use Rattle.costs.specs.Lanes.{TableFor};
-ghost use Rattle.run.specs.Levels.{levels_size};
-ghost use Rattle.witness.specs.Chosen.{Chosen};
-ghost use Rattle.witness.specs.Solves.{SameEnd, Solves, FirstOfA, FirstOfB};
+ghost use Rattle.model.specs.Walk.{thread_of};
+ghost use Rattle.costs.specs.Lanes.{TableFor, Value};
+ghost use Rattle.summary.specs.Cells.{controls_of, size};
+ghost use Rattle.witness.specs.Chosen.{Chosen, ChosenBy};
+ghost use Rattle.witness.specs.Solves.{SameEnd, SideOf, Solves, SolvesFor, FirstOf};
 
 mod merge;
 
-use costs::parts::{power, state_at, turn_of};
+use costs::side::Side;
+use costs::side_of;
 use model::{MOST_BYTES, Model, ThreadId};
-use run::levels::LEVELS;
+use run::levels::Levels;
 use run::solve::base;
 use run::steps::steps;
 
+// That the model is in range is a clause of each call. With a type for it each clause would say `x.model` for `m`, and each caller would
+// build it from the proof that it now gives. The two tables and the levels are lent to each call one by one: a struct that lends them would
+// promise in each call that its `&mut` are still the caller's.
+
 // Solves what the schedules of all lines share: the table of A in a, that of B in b.
 pub fn prepare(m: Model, a: &mut [u16], b: &mut [u16])
-    requires fact_1 { Fits m }
-    requires fact_2 { TableFor m a.old }
-    requires fact_3 { TableFor m b.old }
-    ensures { Solves m (m.g ^ (2 * m.k)) a.new b.new }
+    requires fits { Fits m }
+    requires first { TableFor m a.old }
+    requires second { TableFor m b.old }
+    ensures { Solves m None a.new b.new }
 {
-    let g = m.g as usize;
-    let n = m.k as usize - 1;
-    let one = m.a;
-    let other = m.b;
-    let top_one = one.top;
-    let top_other = other.top;
-    base(a, g, n, top_one, one);
-    base(b, g, n, top_other, other);
+    prepare_one(m, ThreadId::A, a);
+    prepare_one(m, ThreadId::B, b);
 }
 
-// Writes the first of the shortest schedules along the full line whose value is v to the tops that the model names, where x and y are
-// the least steps of A and of B along it. `last` is the line that was written before, if it is the value of one: where a thread's first
-// turn end is the same, its table is not solved again.
+// The same for one thread.
+fn prepare_one(m: Model, id: ThreadId, table: &mut [u16])
+    requires fits { Fits m }
+    requires room { size (controls_of (thread_of id m) m.g) ≤ length table.old }
+    ensures { SolvesFor m id None table.new }
+{
+    base(table, &side_for(m, id));
+}
+
+// The side of a thread of a model, for the top that the model names.
+fn side_for(m: Model, id: ThreadId) -> Side
+    requires { Fits m }
+    ensures { SideOf m id result }
+{
+    let th = match id {
+        ThreadId::A => m.a,
+        ThreadId::B => m.b,
+    };
+    side_of(m, id, th, th.top)
+}
+
+// Writes the first of the shortest schedules along the full line whose value is v to the tops that the model names, where x and y are the
+// least steps of A and of B along it. `last` is the line that was written before, if one was: where a thread's first turn end is the same,
+// its table is not solved again. That the schedule has room is a clause: docs/PROMISES.md names this call, and an array would ask more.
 pub fn write(
     m: Model,
     v: usize,
     x: u16,
     y: u16,
-    last: usize,
+    last: Option<usize>,
     a: &mut [u16],
     b: &mut [u16],
-    levels: &mut [u16; LEVELS],
+    levels: &mut Levels,
     schedule: &mut [u8],
 )
-    requires fact_1 { Fits m }
-    requires fact_2 { Chosen m v x y }
-    requires fact_3 { Solves m last a.old b.old }
-    requires fact_4 { (length levels.old ≡ levels_size) × (most_bytes ≤ length schedule.old) }
+    requires fits { Fits m }
+    requires chosen { Chosen m v x y }
+    requires solved { Solves m last a.old b.old }
+    requires room { most_bytes ≤ length schedule.old }
     ensures first { Stored (First (EndsUnder m (digits m.g (2 * m.k) v)) (x + y)) (x + y) 0
         schedule.old schedule.new }
-    ensures tables { Solves m v a.new b.new }
-    ensures size { length levels.new ≡ levels_size }
+    ensures tables { Solves m (Some v) a.new b.new }
 {
     let mut one = [0u8; MOST_BYTES];
     let mut other = [0u8; MOST_BYTES];
-    both(m, v, x, y, last, a, b, levels, &mut one, &mut other);
+    write_one(m, ThreadId::A, v, x as usize, last, a, levels, &mut one);
+    write_one(m, ThreadId::B, v, y as usize, last, b, levels, &mut other);
     let end_one = 2 * x as usize;
     let end_other = 2 * y as usize;
     merge::merge(&one[..end_one], &other[..end_other], schedule);
 }
 
-// Writes each thread's first run along the line.
-fn both(
+// Writes one thread's first run along the line.
+fn write_one(
     m: Model,
+    id: ThreadId,
     v: usize,
-    x: u16,
-    y: u16,
-    last: usize,
-    a: &mut [u16],
-    b: &mut [u16],
-    levels: &mut [u16; LEVELS],
-    one: &mut [u8; MOST_BYTES],
-    other: &mut [u8; MOST_BYTES],
+    count: usize,
+    last: Option<usize>,
+    table: &mut [u16],
+    levels: &mut Levels,
+    out: &mut [u8; MOST_BYTES],
 )
-    requires fact_1 { Fits m }
-    requires fact_2 { Chosen m v x y }
-    requires fact_3 { Solves m last a.old b.old }
-    requires fact_4 { length levels.old ≡ levels_size }
-    ensures first { FirstOfA m v x one.old one.new }
-    ensures second { FirstOfB m v y other.old other.new }
-    ensures tables { Solves m v a.new b.new }
-    ensures size { length levels.new ≡ levels_size }
+    requires fits { Fits m }
+    requires chosen { ChosenBy m id v count }
+    requires solved { SolvesFor m id last table.old }
+    ensures first { FirstOf m id v count out.old out.new }
+    ensures table { SolvesFor m id (Some v) table.new }
 {
-    let g = m.g as usize;
-    let n = m.k as usize - 1;
-    let start = m.start.0 as usize;
-    let ta = m.a;
-    let tb = m.b;
-    let top_a = ta.top;
-    let top_b = tb.top;
-    let p = x as usize;
-    let q = y as usize;
-    let known_a = same_end(g, n, last, v, ThreadId::A);
-    let known_b = same_end(g, n, last, v, ThreadId::B);
-    steps(
-        a,
-        ta,
-        top_a,
-        g,
-        n,
-        ThreadId::A,
-        start,
-        v,
-        p,
-        known_a,
-        levels,
-        one,
-    );
-    steps(
-        b,
-        tb,
-        top_b,
-        g,
-        n,
-        ThreadId::B,
-        start,
-        v,
-        q,
-        known_b,
-        levels,
-        other,
-    );
+    let side = side_for(m, id);
+    let known = same_end(&side, last, v);
+    steps(table, &side, v, count, known, levels, out);
 }
 
-// Whether a full line is known, and has a thread's first turn end in common with another.
-fn same_end(g: usize, n: usize, last: usize, v: usize, id: ThreadId) -> bool
-    requires { (1 ≤ g) × (g ≤ 4) × (n ≤ 2) × (v < g ^ (2 * suc n)) }
-    ensures { result ≡ true → SameEnd id g n last v }
+// Whether a full line is known, and has the thread's first turn end in common with another.
+fn same_end(side: &Side, last: Option<usize>, v: usize) -> bool
+    requires line { Value side.now v }
+    requires known { (old : ℕ) → last ≡ Some old → Value side.now old }
+    ensures { result ≡ true → SameEnd side.now.id side.now.system.g side.now.n last v }
 {
-    let len = 2 * n + 2;
-    if power(g, len) <= last {
+    let Some(old) = last else {
         return false;
-    }
-    let turn = turn_of(id, 0);
-    if state_at(g, len, last, turn) != state_at(g, len, v, turn) {
-        return false;
-    }
-    state_at(g, len, last, turn + 1) == state_at(g, len, v, turn + 1)
+    };
+    side.line(old).lane(side.id, 0) == side.line(v).lane(side.id, 0)
 }

@@ -12,8 +12,8 @@ use Rattle.model.specs.declared.Right.{Right}
 use Rattle.model.specs.declared.Right.TheVariants.{Remove, Swap, Push}
 use Rattle.model.specs.declared.Rule.{Rule}
 use Rattle.model.specs.declared.Thread.{Thread}
-use Rattle.model.specs.declared.Top.{Top}
-use Rattle.model.specs.declared.Top.TheVariants.{Any, Named}
+use Rattle.model.specs.Tops.{Top}
+use Rattle.std.specs.Prelude.{None, Some}
 use Rattle.model.specs.Bits.{all_zero}
 use Rattle.model.specs.Order.{right_key, key_of, above}
 use Rattle.model.specs.Results.{first_of}
@@ -56,8 +56,8 @@ thread t h = simp length-append (omega (arith, field 0 t.count, rules t.count t.
 
 -- A top has at most one byte.
 top : (t : Top) → length (top_of t) ≤ 1
-top Any = omega arith
-top (Named x) = omega arith
+top None = omega arith
+top (Some x) = omega arith
 
 -- Marks have at most eight.
 held : (l : List ℕ) → length (held_bytes l) ≤ 8
@@ -115,7 +115,7 @@ full =
     record {
       symbols = 15;
       first = record { 0 = 1 };
-      top = Named (record { 0 = 1 });
+      top = Some (record { 0 = 1 });
       held = replicate 8 255;
       count = 64;
       rules = long 0 64;

@@ -1,3 +1,4 @@
 pub mod Alike
 pub mod Lengths
+pub mod Outputs
 pub mod Puts

@@ -5,8 +5,8 @@ use Rattle.model.specs.declared.Right.{Right}
 use Rattle.model.specs.declared.Right.TheVariants.{Remove, Swap, Push}
 use Rattle.model.specs.declared.Rule.{Rule}
 use Rattle.model.specs.declared.Thread.{Thread}
-use Rattle.model.specs.declared.Top.{Top}
-use Rattle.model.specs.declared.Top.TheVariants.{Any, Named}
+use Rattle.model.specs.Tops.{Top}
+use Rattle.std.specs.Prelude.{None, Some}
 use Rattle.model.specs.Bits.{all_zero}
 
 -- A field's byte, unless it is the default.
@@ -52,13 +52,13 @@ map_of m =
 
 -- The symbol of a top that is named.
 abbrev pub top_of : Top → List ℕ
-top_of Any = []
-top_of (Named x) = x.0 ∷ []
+top_of None = []
+top_of (Some x) = x.0 ∷ []
 
 -- What a top adds to the second map: the weight of its bit, where it is named.
 abbrev pub top_weight : ℕ → Top → ℕ
-top_weight w Any = 0
-top_weight w (Named x) = w
+top_weight w None = 0
+top_weight w (Some x) = w
 
 -- The eight bytes of a thread's marks, unless no mark stands.
 unfoldable pub held_bytes : List ℕ → List ℕ

@@ -44,18 +44,6 @@ pub returns-then-g-lt1 : goal.returns-then-g-lt1
 unfolding table_bits
 returns-then-g-lt1 c = search decided
 
-pub returns-then-g-gt4 : goal.returns-then-g-gt4
-unfolding table_bits
-returns-then-g-gt4 c = search decided
-
-pub returns-then-k-lt1 : goal.returns-then-k-lt1
-unfolding table_bits
-returns-then-k-lt1 c = search decided
-
-pub returns-then-k-gt3 : goal.returns-then-k-gt3
-unfolding table_bits
-returns-then-k-gt3 c = search decided
-
 pub returns : goal.returns
 unfolding table_bits table
 returns c = search (decided, entry)

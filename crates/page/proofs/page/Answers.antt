@@ -1,41 +1,43 @@
 -- `page` meets its contract: replay decides first, then the store's length, and what is put is the page.
-use mathlib.Core.Path.{sym, ◌∙◌}
+use Rattle.std.specs.Prelude.{Err}
+use mathlib.Core.Path.{◌≡◌, refl, sym}
 use native.Mathlib.Omega.{arith}
+use Rattle.std.proofs.Common.{rules}
+use Rattle.writer.proofs.Outputs.{lent}
 use Rattle.page.proofs.Answers.{refused, short, whole}
 use Rattle.page.proofs.Pages.{pageable, page_length}
 use Rattle.page.proofs.page.Goals as goal
 
+pub returns-in_err-replay-clause-answer : goal.returns-in_err-replay-clause-answer
+returns-in_err-replay-clause-answer c =
+    let said : c.from_residual.result ≡ Err c.in_err-replay.field-0.0 = search rules in
+    rw said (refused c.args.m c.args.schedule.now c.args.store.now (sym c.in_err-replay.ensures)).0
+
+pub returns-in_err-replay-clause-stored : goal.returns-in_err-replay-clause-stored
+returns-in_err-replay-clause-stored c = (refused c.args.m c.args.schedule.now c.args.store.now (sym c.in_err-replay.ensures)).1
+
 pub overflow_mul-size : goal.overflow_mul-size
-overflow_mul-size c = omega (arith, (pageable _ _ (sym c.replay.ensures ∙ c.in-Accepted.is)).most)
+overflow_mul-size c = omega (arith, (pageable _ _ (sym c.in_ok-replay.ensures)).most)
 
 pub returns-then-store-size-clause-answer : goal.returns-then-store-size-clause-answer
 returns-then-store-size-clause-answer c =
-    let e = sym c.replay.ensures ∙ c.in-Accepted.is in
-    (short _ _ _ e (page_length _ _ e) (omega arith)).0
+    let e = sym c.in_ok-replay.ensures in
+    (short _ _ c.args.store.now e (page_length _ _ e) (omega arith)).0
 
 pub returns-then-store-size-clause-stored : goal.returns-then-store-size-clause-stored
 returns-then-store-size-clause-stored c =
-    let e = sym c.replay.ensures ∙ c.in-Accepted.is in
-    (short _ _ _ e (page_length _ _ e) (omega arith)).1
+    let e = sym c.in_ok-replay.ensures in
+    (short _ _ c.args.store.now e (page_length _ _ e) (omega arith)).1
 
-pub put_page-requires-clause-fact_1 : goal.put_page-requires-clause-fact_1
-put_page-requires-clause-fact_1 c =
-    pageable _ _ (sym c.replay.ensures ∙ c.in-Accepted.is)
+pub put_page-requires-clause-pageable : goal.put_page-requires-clause-pageable
+put_page-requires-clause-pageable c = pageable _ _ (sym c.in_ok-replay.ensures)
 
-pub returns-else-store-size-clause-answer : goal.returns-else-store-size-clause-answer
-returns-else-store-size-clause-answer c =
-    let e = sym c.replay.ensures ∙ c.in-Accepted.is in
-    (whole _ _ _ e (page_length _ _ e) (omega arith) c.put_page.ensures).0
+pub returns-clause-answer : goal.returns-clause-answer
+returns-clause-answer c =
+    let e = sym c.in_ok-replay.ensures in
+    (whole _ _ _ e (page_length _ _ e) (omega arith) (lent c.new-out.ensures c.put_page.ensures refl)).0
 
-pub returns-else-store-size-clause-stored : goal.returns-else-store-size-clause-stored
-returns-else-store-size-clause-stored c =
-    let e = sym c.replay.ensures ∙ c.in-Accepted.is in
-    (whole _ _ _ e (page_length _ _ e) (omega arith) c.put_page.ensures).1
-
-pub returns-in-Refused-clause-answer : goal.returns-in-Refused-clause-answer
-returns-in-Refused-clause-answer c =
-    (refused _ _ _ (sym c.replay.ensures ∙ c.in-Refused.is)).0
-
-pub returns-in-Refused-clause-stored : goal.returns-in-Refused-clause-stored
-returns-in-Refused-clause-stored c =
-    (refused _ _ _ (sym c.replay.ensures ∙ c.in-Refused.is)).1
+pub returns-clause-stored : goal.returns-clause-stored
+returns-clause-stored c =
+    let e = sym c.in_ok-replay.ensures in
+    (whole _ _ _ e (page_length _ _ e) (omega arith) (lent c.new-out.ensures c.put_page.ensures (search rules))).1

@@ -1,12 +1,6 @@
 -- What is solved for one turn end stays so.
-use Rattle.std.proofs.Common.{◌≡◌, ◌-◌, length}
-use Rattle.model.specs.declared.Top.TheVariants.{Any}
-use Rattle.summary.specs.Cells.{controls_of, size, second, First, Solved}
+use Rattle.summary_vectors.specs.Solved.{FirstSolved}
 use Rattle.summary_vectors.proofs.slices_from.Given as goal
 
 abbrev pub invariant-loop-i : goal.invariant-loop-i
-invariant-loop-i l =
-    (length l.t ≡ size 8) × Solved (controls_of l.th l.g) (First l.th Any (controls_of l.th l.g)) (second (controls_of l.th l.g)) l.t
-
-abbrev pub decreases-loop-i : goal.decreases-loop-i
-decreases-loop-i l = l.g - l.i
+invariant-loop-i l = FirstSolved l.system l.t

@@ -15,6 +15,6 @@ take-put_mid_more a k n xs ys within fits =
 
 pub loop-size-preserved : goal.loop-size-preserved
 loop-size-preserved g c =
-    let pieces = Consumes-trans _ _ _ _ _ c.loop-size.invariant.1 c.in-Bytes.ensures.piece.0 in
-    let stands = take-put_mid_more c.loop-size.size _ c.in-Bytes.n c.loop-size.buffer c.read_piece.new.buffer c.loop-size.invariant.0 c.in-Bytes.ensures.within.0 in
+    let pieces = Consumes-trans _ _ _ _ _ c.loop-size.invariant.1 c.in_ok-n.ensures.bytes.0 in
+    let stands = take-put_mid_more c.loop-size.size _ c.in_ok-n.n c.loop-size.buffer c.read.new.buf c.loop-size.invariant.0 c.in_ok-n.ensures.bound.0 in
     (search rules, subst (Consumes _ _) (sym stands) pieces)

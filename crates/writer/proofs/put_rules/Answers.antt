@@ -1,41 +1,34 @@
 use Rattle.std.proofs.Common.{rules}
 use mathlib.Core.Path.{◌≡◌}
-use native.Mathlib.Nat.{le_antisymm}
 use native.Mathlib.Omega.{arith}
 use lib.ListN.{length, length-append}
+use lib.Seq.{length-take-le}
+use Prim.Native.Nat.{◌<◌}
+use Rattle.std.proofs.lemmas.List.{get_or-take, take_all}
 use Rattle.model.proofs.Checks.{length_mapped}
 use Rattle.writer.specs.Writer.{rules_of, rule_list_of}
-use Rattle.writer.proofs.Puts.{nothing, ◌then◌, one_more, among}
+use Rattle.writer.proofs.Puts.{one_more, among}
+use Rattle.writer.proofs.Outputs.{nothing, ◌then◌}
 use Rattle.writer.proofs.put_rules.Goals as goal
 
-pub put_field-next-requires : goal.put_field-next-requires
-unfolding rules_of
-put_field-next-requires c = omega (arith, simp length-append at c.requires.1)
-
-pub loop-i-init : goal.loop-i-init
+pub loop-rule-init : goal.loop-rule-init
 unfolding rule_list_of
-loop-i-init c =
-    let full : length c.args.t.rules ≡ 64 = search (length_mapped, rules) in
-    (search rules, omega arith, search rules, nothing _ _)
+loop-rule-init c = nothing _
 
-pub put_rule-next-requires : goal.put_rule-next-requires
+pub put_rule-requires : goal.put_rule-requires
 unfolding rules_of
-put_rule-next-requires c =
-    let more = c.loop-i-test.true in
+put_rule-requires c =
+    let full : length c.args.t.rules ≡ 64 = search (length_mapped, rules) in
+    let size = length-take-le c.args.t.count c.args.t.rules (omega arith) in
+    let more : c.loop-rule.rule-index < c.args.t.count = omega arith in
     let all = simp length-append at c.requires.1 in
-    let some = among _ _ c.args.t.rules more c.loop-i.invariant.1 in
-    (c.requires.0.halves _ more, omega arith)
+    let some = among _ _ c.loop-rule-test.true in
+    (rw get_or-take (c.requires.0.halves _ more), omega arith)
 
-pub loop-i-preserved : goal.loop-i-preserved
-loop-i-preserved c = (
-  search rules,
-  search rules,
-  search rules,
-  rw (one_more _ _ _ c.loop-i-test.true c.loop-i.invariant.1) (c.loop-i.invariant.3 then c.put_rule-next.ensures),
-)
+pub loop-rule-preserved : goal.loop-rule-preserved
+loop-rule-preserved c = rw (one_more _ _ c.loop-rule-test.true) (c.loop-rule.invariant then c.put_rule.ensures)
 
 pub returns : goal.returns
 unfolding rules_of
 returns c =
-    let every = rw (le_antisymm c.loop-i.invariant.0 c.loop-i-test.false) at c.loop-i.invariant.3 in
-    c.put_field-next.ensures then every
+    let every = rw (take_all _ _ c.loop-rule-test.false) at c.loop-rule.invariant in c.field.ensures then every

@@ -1,15 +1,8 @@
--- `put_rules` meets its contract. The invariant: since the loop began, the first i rules have been put.
-use mathlib.Core.Path.{◌≡◌}
-use Prim.Native.Nat.{◌≤◌, ◌-◌}
-use lib.ListN.{length, take}
-use Rattle.writer.specs.Put.{Put}
+-- `put_rules` meets its contract. The invariant: since the loop began, the first rules have been put, as many as it has come past.
+use lib.ListN.{take}
+use Rattle.writer.specs.Output.{Appends}
 use Rattle.writer.specs.Writer.{rule_list_of}
 use Rattle.writer.proofs.put_rules.Given as goal
 
-abbrev pub invariant-loop-i : goal.invariant-loop-i
-invariant-loop-i l =
-    (l.i ≤ l.n) × (l.n ≤ length l.t.rules) × (length l.s ≡ length l.initial.s) ×
-    Put l.initial.s l.s l.initial.next l.next (rule_list_of (take l.i l.t.rules))
-
-abbrev pub decreases-loop-i : goal.decreases-loop-i
-decreases-loop-i l = l.n - l.i
+abbrev pub invariant-loop-rule : goal.invariant-loop-rule
+invariant-loop-rule l = Appends l.initial.out l.out (rule_list_of (take l.rule-index l.rule-items))

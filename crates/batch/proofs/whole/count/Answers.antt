@@ -1,39 +1,23 @@
-use native.Mathlib.Omega.{arith}
-use Rattle.batch.proofs.Counting.{starts, goes_on, accepts, refuses_here, ends-here, at-end}
+use mathlib.Core.Path.{◌≡◌}
+use Rattle.std.proofs.Common.{rules}
+use Rattle.std.specs.Prelude.{Err}
+use Rattle.batch.proofs.Counting.{taken, fewer, goes_on, refuses_here, ends_here}
 use Rattle.batch.proofs.whole.count.Goals as goal
 
-pub loop-at-init : goal.loop-at-init
-loop-at-init c = starts _
+pub returns-in_err-found : goal.returns-in_err-found
+returns-in_err-found c =
+    let refused : c.from_residual.result ≡ Err c.in_err-found.field-0.0 = search rules in
+    rw refused (refuses_here c.loop-found.invariant c.in_err-found.ensures.answer)
 
-pub returns-in-Refused : goal.returns-in-Refused
-returns-in-Refused c =
-    let inv = c.loop-at.invariant in
-    refuses_here inv c.first-found.result c.first-found.ensures.answer c.in-Refused.is
+pub loop-found-smaller : goal.loop-found-smaller
+loop-found-smaller c =
+    let told = c.in_ok-found.ensures in
+    fewer (taken _ c.in-Some.found (rw c.in-Some.is at told.answer) (rw c.in-Some.is at told.stands))
 
-pub returns-in-None : goal.returns-in-None
-returns-in-None c =
-    ends-here c.loop-at.invariant c.first-found.result c.first-found.ensures.answer c.in-None.is
-
-pub overflow_add-at : goal.overflow_add-at
-overflow_add-at c =
-    let inv = c.loop-at.invariant in
-    let read = accepts inv c.first-found.result c.first-found.ensures.answer c.first-found.ensures.stands c.in-Accepted.is in
-    let more = goes_on inv read in
-    record { fits = omega (arith, more.within) }
-
-pub loop-at-smaller : goal.loop-at-smaller
-loop-at-smaller c =
-    let inv = c.loop-at.invariant in
-    let read = accepts inv c.first-found.result c.first-found.ensures.answer c.first-found.ensures.stands c.in-Accepted.is in
-    let more = goes_on inv read in
-    omega (arith, read.some, more.within)
-
-pub loop-at-preserved : goal.loop-at-preserved
-loop-at-preserved c =
-    let inv = c.loop-at.invariant in
-    let read = accepts inv c.first-found.result c.first-found.ensures.answer c.first-found.ensures.stands c.in-Accepted.is in
-    let more = goes_on inv read in
-    more
+pub loop-found-preserved : goal.loop-found-preserved
+loop-found-preserved c =
+    let told = c.in_ok-found.ensures in
+    goes_on c.loop-found.invariant (taken _ c.in-Some.found (rw c.in-Some.is at told.answer) (rw c.in-Some.is at told.stands))
 
 pub returns : goal.returns
-returns c = at-end c.loop-at.invariant c.loop-at-test.false
+returns c = ends_here c.loop-found.invariant (rw c.in_default.is at c.in_ok-found.ensures.answer)

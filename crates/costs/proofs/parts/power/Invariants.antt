@@ -1,10 +1,7 @@
--- `power` meets its contract. The invariant: r is the power with exponent i.
+-- `power` meets its contract. The invariant: r is the power with as many factors as there were rounds.
 use mathlib.Core.Path.{◌≡◌}
-use Prim.Native.Nat.{◌-◌, ◌^◌, ◌≤◌}
+use Prim.Native.Nat.{◌^◌}
 use Rattle.costs.proofs.parts.power.Given as goal
 
-abbrev pub invariant-loop-i : goal.invariant-loop-i
-invariant-loop-i l = (l.i ≤ l.len) × (l.r ≡ l.g ^ l.i)
-
-abbrev pub decreases-loop-i : goal.decreases-loop-i
-decreases-loop-i l = l.len - l.i
+abbrev pub invariant-loop : goal.invariant-loop
+invariant-loop l = l.r ≡ l.g ^ l.counter

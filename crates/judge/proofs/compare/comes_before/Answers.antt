@@ -1,29 +1,14 @@
-use native.Mathlib.Nat.{le_antisymm}
-use Rattle.std.proofs.Common.{rules}
-use Rattle.judge.proofs.Comparing.{lower_byte, higher_byte, same_byte, same_bytes}
+-- `comes_before` meets its contract: bytes in order are schedules in order.
+use Prim.Native.Nat.{◌*◌}
+use native.Mathlib.Omega.{arith}
+use lib.ListN.{take}
+use lib.Seq.{length-take-le}
+use Rattle.judge.proofs.Comparing.{ordered}
 use Rattle.judge.proofs.compare.comes_before.Goals as goal
-
-pub returns-then-fresh-i : goal.returns-then-fresh-i
-returns-then-fresh-i c =
-    let pre = c.requires in
-    lower_byte _ _ _ c.loop-i.i pre.0 pre.1 c.loop-i-test.true c.loop-i.invariant.1
-    c.if-fresh-i.true
-
-pub returns-then-kept-i : goal.returns-then-kept-i
-returns-then-kept-i c =
-    let pre = c.requires in
-    higher_byte _ _ _ c.loop-i.i pre.0 pre.1 c.loop-i-test.true c.loop-i.invariant.1 c.if-kept-i.true
-
-pub loop-i-preserved : goal.loop-i-preserved
-loop-i-preserved c = (
-  search rules,
-  same_byte _ _ c.loop-i.i (search rules) (search rules) c.loop-i.invariant.1
-      (le_antisymm c.if-kept-i.false c.if-fresh-i.false),
-)
 
 pub returns : goal.returns
 returns c =
-    let loop = c.loop-i in
-    let args = c.args in
-    same_bytes args.count args.fresh.now args.kept.now
-    (rw (le_antisymm loop.invariant.0 c.loop-i-test.false) at loop.invariant.1)
+    let n = 2 * c.args.count in
+    let p = length-take-le n c.args.fresh.now c.requires.0 in
+    let q = length-take-le n c.args.kept.now c.requires.1 in
+    rw c.lt.ensures (ordered (take n c.args.fresh.now) (take n c.args.kept.now) (omega arith) (omega arith))

@@ -1,6 +1,6 @@
 use native.Mathlib.Omega.{arith}
 use Rattle.merge.proofs.Along.{from_start, at-end}
-use Rattle.merge.proofs.Filling.{nothing, next_filled, no_room, all_filled}
+use Rattle.merge.proofs.Filling.{nothing, next_filled, all_filled}
 use Rattle.merge.proofs.join.fill.Goals as goal
 
 pub loop-i-init : goal.loop-i-init
@@ -11,9 +11,6 @@ next-x-requires c =
     let pre = c.requires in
     let inv = c.loop-i.invariant in
     (pre.0, pre.1, inv.0, inv.1, c.loop-i-test.true)
-
-pub returns-then-count-eq64 : goal.returns-then-count-eq64
-returns-then-count-eq64 c = no_room c.loop-i.invariant.2 c.next-x.ensures.same c.if-count-eq64.true
 
 pub loop-i-smaller : goal.loop-i-smaller
 loop-i-smaller c = let up = c.next-x.ensures.more in omega arith

@@ -1,6 +1,8 @@
-use mathlib.Core.Path.{sym, ◌∙◌}
+use mathlib.Core.Bool.{false, ◌&&◌}
+use mathlib.Core.Path.{◌≡◌, sym, ◌∙◌}
 use native.Mathlib.Omega.{arith}
 use Rattle.merge.proofs.Along.{from_start, at-end, clashes, rest_decides, none_clash}
+use Rattle.merge.proofs.join.has_clash.Goals.{else-x-via-then-x+else-x-2, else-x-via-else-x}
 use Rattle.merge.proofs.join.has_clash.Goals as goal
 
 pub loop-i-init : goal.loop-i-init
@@ -15,23 +17,17 @@ next-x-requires c =
 pub returns-then-x-2 : goal.returns-then-x-2
 returns-then-x-2 c = sym (clashes c.next-x.ensures c.if-x.true c.if-x-2.true) ∙ c.loop-i.invariant.2
 
-pub loop-i-smaller-else-x-2 : goal.loop-i-smaller-else-x-2
-loop-i-smaller-else-x-2 c = let up = c.next-x.ensures.more in omega arith
-
-pub loop-i-preserved-else-x-2 : goal.loop-i-preserved-else-x-2
-loop-i-preserved-else-x-2 c =
-    let x = c.next-x.ensures in
-    let same = sym (rest_decides x (rw (c.if-x.true, c.if-x-2.false))) ∙ c.loop-i.invariant.2 in
-    (x.low_i, x.low_j, same)
-
 pub loop-i-smaller : goal.loop-i-smaller
 loop-i-smaller c = let up = c.next-x.ensures.more in omega arith
 
 pub loop-i-preserved : goal.loop-i-preserved
 loop-i-preserved c =
     let x = c.next-x.ensures in
-    let same = sym (rest_decides x (rw c.if-x.false)) ∙ c.loop-i.invariant.2 in
-    (x.low_i, x.low_j, same)
+    let same : c.next-x.result.held && c.next-x.result.free ≡ false = elim c.else-x.branch [
+      | else-x-via-then-x+else-x-2 w ↦ rw (w.if-x.true, w.if-x-2.false)
+      | else-x-via-else-x w ↦ rw w.if-x.false
+    ] in
+    (x.low_i, x.low_j, sym (rest_decides x same) ∙ c.loop-i.invariant.2)
 
 pub returns : goal.returns
 returns c = let inv = c.loop-i.invariant in none_clash (at-end _ _ inv.0 inv.1 c.loop-i-test.false) inv.2

@@ -1,23 +1,6 @@
--- `join` meets its contract: the bytes of marks are packed from the flags that were filled in.
-use Rattle.merge.specs.Answer.{bytes_from}
+-- `join` meets its contract: what was filled in makes the thread.
 use Rattle.merge.proofs.Filling.{thread_filled}
 use Rattle.merge.proofs.join.join.Goals as goal
 
 pub returns : goal.returns
-unfolding bytes_from
-returns c =
-    record {
-      fits = c.fill-found.ensures.fits;
-      thread = λ ok.
-          rw (
-            c.byte_of.ensures,
-            c.byte_of-2.ensures,
-            c.byte_of-3.ensures,
-            c.byte_of-4.ensures,
-            c.byte_of-5.ensures,
-            c.byte_of-6.ensures,
-            c.byte_of-7.ensures,
-            c.byte_of-8.ensures,
-          )
-          (thread_filled c.args.t _ c.fill-found.result c.fill-found.ensures ok);
-    }
+returns c = rw c.bytes_of-held.ensures (thread_filled c.args.t _ c.in_ok-count.field-0 c.in_ok-count.ensures)

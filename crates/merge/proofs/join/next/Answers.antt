@@ -13,21 +13,21 @@ returns-then-u-j c =
     let pre = c.requires in
     rw c.alone-then-u-j.ensures (left _ _ pre.0 pre.1 _ _ pre.2 pre.3 (omega arith) (λ l. absurd (omega arith)))
 
-pub returns-then-key_x-key_y : goal.returns-then-key_x-key_y
-returns-then-key_x-key_y c =
+pub returns-then-x-y : goal.returns-then-x-y
+returns-then-x-y c =
     let pre = c.requires in
-    let lower = rw (c.key-key_x.ensures, c.key-key_y.ensures) at c.if-key_x-key_y.true in
-    rw c.alone-then-key_x-key_y.ensures (left _ _ pre.0 pre.1 _ _ pre.2 pre.3 c.if-t-i.false (λ l. lower))
+    let lower = rw (c.key-x.ensures, c.key-y.ensures) at c.if-x-y.true in
+    rw c.alone-then-x-y.ensures (left _ _ pre.0 pre.1 _ _ pre.2 pre.3 c.if-t-i.false (λ l. lower))
 
-pub returns-then-key_y-key_x : goal.returns-then-key_y-key_x
-returns-then-key_y-key_x c =
+pub returns-then-y-x : goal.returns-then-y-x
+returns-then-y-x c =
     let pre = c.requires in
-    let lower = rw (c.key-key_x.ensures, c.key-key_y.ensures) at c.if-key_y-key_x.true in
-    rw c.alone-then-key_y-key_x.ensures (right _ _ pre.0 pre.1 _ _ pre.2 pre.3 c.if-u-j.false (λ l. lower))
+    let lower = rw (c.key-x.ensures, c.key-y.ensures) at c.if-y-x.true in
+    rw c.alone-then-y-x.ensures (right _ _ pre.0 pre.1 _ _ pre.2 pre.3 c.if-u-j.false (λ l. lower))
 
-pub returns : goal.returns
-returns c =
+pub returns-else-y-x : goal.returns-else-y-x
+returns-else-y-x c =
     let pre = c.requires in
     rw c.shared.ensures
     (one _ _ pre.0 pre.1 _ _ pre.2 pre.3 c.if-t-i.false c.if-u-j.false
-    (omega (arith, c.key-key_x.ensures, c.key-key_y.ensures)))
+    (omega (arith, c.key-x.ensures, c.key-y.ensures)))

@@ -1,20 +1,19 @@
 use native.Mathlib.Omega.{arith}
 use Rattle.std.proofs.Common.{rules}
-use Rattle.page.proofs.Turns.{turns_on, turns_end}
+use Rattle.page.proofs.Turns.{turns_on, turns_end, turn_byte, byte_low}
 use Rattle.page.proofs.foot.turns.Goals as goal
 
-pub loop-i-init : goal.loop-i-init
-loop-i-init c = (search rules, search rules, omega arith)
-
-pub ends_turn-count-requires-clause-fact_2 : goal.ends_turn-count-requires-clause-fact_2
-ends_turn-count-requires-clause-fact_2 c =
-    c.requires
+pub overflow_add-count : goal.overflow_add-count
+overflow_add-count c =
+    let low = byte_low c.ends_turn.result in
+    search rules
 
 pub loop-i-preserved : goal.loop-i-preserved
 loop-i-preserved c =
-    let loop = c.loop-i in
-    let ended = turns_on c.args.schedule.now loop.i c.loop-i-test.true in
-    (search rules, omega (arith, c.ends_turn-count.ensures.1), omega (arith, c.ends_turn-count.ensures.0))
+    let ended = turns_on c.args.schedule.now c.loop-i.i c.loop-i-test.true in
+    let low = byte_low c.ends_turn.result in
+    let byte = rw (c.ends_turn.ensures, turn_byte) at c.from-count.ensures in
+    (omega arith, omega (arith, c.loop-i.invariant.1))
 
 pub returns : goal.returns
 returns c = omega (arith, turns_end c.args.schedule.now c.loop-i.i c.loop-i-test.false)

@@ -1,28 +1,31 @@
--- `put_stack` meets its contract: the symbols that are shown, and blanks in the columns that are left.
+use native.Mathlib.Nat.{le_antisymm}
 use native.Mathlib.Omega.{arith}
-use Rattle.writer.proofs.Puts.{◌then◌}
-use Rattle.page.proofs.Shown.{length_digits, stack_shown}
+use Prim.Native.Nat.{ℕ, ◌-◌}
+use Rattle.std.proofs.lemmas.List.{length-replicate}
+use Rattle.walk.specs.Stack.{top_first}
+use Rattle.writer.proofs.Outputs.{◌then◌}
+use Rattle.page.proofs.Shown.{length_digits, symbol_next, stack_shown}
+use Rattle.page.proofs.Widths.{length_stack}
 use Rattle.page.proofs.line.put_stack.Goals as goal
 
-pub put_blanks-requires : goal.put_blanks-requires
-put_blanks-requires c =
-    omega (
-      arith,
-      c.put_symbols-next.ensures.ends,
-      c.shown_of-shown.ensures,
-      length_digits c.shown_of-shown.result c.args.depth c.args.stack.now (omega arith),
-    )
+pub byte-requires : goal.byte-requires
+byte-requires c =
+    let depth = c.args.depth in
+    let size = length_stack (top_first depth c.args.stack.now) in
+    omega (arith, c.requires, c.min-shown.ensures, length_digits c.loop-i.i depth c.args.stack.now (omega (arith, c.min-shown.ensures)))
 
-pub returns-clause-text : goal.returns-clause-text
-returns-clause-text c =
-    let shown = c.shown_of-shown in
-    let symbols = c.put_symbols-next.ensures in
-    rw (stack_shown, ← shown.ensures) (symbols then c.put_blanks.ensures.text)
+pub loop-i-preserved : goal.loop-i-preserved
+loop-i-preserved c =
+    rw (symbol_next c.args.depth c.args.stack.now c.loop-i.i _ (omega (arith, c.min-shown.ensures)) c.hex_digit.ensures)
+    (c.loop-i.invariant then c.byte.ensures)
 
-pub returns-clause-place : goal.returns-clause-place
-returns-clause-place c =
-    omega (
-      arith,
-      c.put_symbols-next.ensures.ends,
-      length_digits c.shown_of-shown.result c.args.depth c.args.stack.now (omega arith),
-    )
+pub repeat-requires : goal.repeat-requires
+repeat-requires c =
+    let depth = c.args.depth in
+    let size = length_stack (top_first depth c.args.stack.now) in
+    omega (arith, length-replicate {A = ℕ} (28 - c.min-shown.result) 32, c.requires, c.min-shown.ensures, length_digits c.loop-i.i depth c.args.stack.now (omega (arith, c.min-shown.ensures)))
+
+pub returns : goal.returns
+returns c =
+    let every = rw (le_antisymm c.loop-i.auto.i-end c.loop-i-test.false) at c.loop-i.invariant in
+    rw (stack_shown c.args.depth c.args.stack.now, ← c.min-shown.ensures) (every then c.repeat.ensures)

@@ -7,4 +7,4 @@ abbrev pub decreases-pair : goal.decreases-pair
 decreases-pair l = 8 * l.count + 4
 
 abbrev pub decreases-stretch : goal.decreases-stretch
-decreases-stretch l = 8 * l.count + (l.ends - l.passed)
+decreases-stretch l = 8 * l.count + (l.course.now.plan.n - l.head.now.passed)

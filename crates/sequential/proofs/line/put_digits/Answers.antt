@@ -1,30 +1,35 @@
-use mathlib.Core.Path.{◌≡◌}
-use Prim.Native.Nat.{◌+◌}
+use mathlib.Core.List.{[], ◌∷◌, map-append}
+use Prim.Native.Nat.{ℕ, ◌+◌}
+use native.Mathlib.Numerals.{add-one}
 use native.Mathlib.Omega.{arith}
-use lib.ListN.{length-set}
-use Rattle.std.proofs.Common.{rules}
-use Rattle.sequential.proofs.Widths.{digits-next, digits_end}
-use Rattle.text.proofs.Putting.{put_start}
+use lib.ListN.{length-map, get_or, take}
+use lib.Seq.{length-take-le, take-suc}
+use Rattle.std.proofs.lemmas.List.{take_all}
+use Rattle.sequential.specs.Text.{state_text}
+use Rattle.writer.proofs.Outputs.{◌then◌}
 use Rattle.sequential.proofs.line.put_digits.Goals as goal
 
-pub loop-i-init : goal.loop-i-init
-loop-i-init c = (search rules, search rules, put_start _ _)
+pub byte-requires : goal.byte-requires
+unfolding state_text
+byte-requires c = omega arith
 
-pub overflow_add-store : goal.overflow_add-store
-overflow_add-store c = let digit = c.requires.fact_1.1.1 c.loop-i.i in search rules
+pub byte-requires-in-loop-copy : goal.byte-requires-in-loop-copy
+unfolding state_text
+byte-requires-in-loop-copy c =
+    let digit : ℕ → ℕ = λ x. 48 + x in
+    let all = take c.args.s.rounds c.args.s.copies in
+    let i = c.loop-copy.copy-index in
+    omega (arith, length-map all digit, length-map (take i all) digit, length-take-le i all (omega arith))
 
-pub loop-i-preserved : goal.loop-i-preserved
-loop-i-preserved c =
-    let loop = c.loop-i in
-    let size = c.requires.fact_1.1.0 in
-    (search rules, simp length-set (search rules), digits-next _ (omega arith) loop.invariant.2)
+pub loop-copy-preserved : goal.loop-copy-preserved
+loop-copy-preserved c =
+    let digit : ℕ → ℕ = λ x. 48 + x in
+    let all = take c.args.s.rounds c.args.s.copies in
+    let i = c.loop-copy.copy-index in
+    rw (add-one, take-suc all i 0 c.loop-copy-test.true, map-append digit (take i all) (get_or all i 0 ∷ []))
+    (c.loop-copy.invariant then c.byte-in-loop-copy.ensures)
 
-pub returns-clause-text : goal.returns-clause-text
-returns-clause-text c =
-    let loop = c.loop-i in
-    let all : loop.i ≡ c.args.k + 1 = omega (arith, loop.invariant.0) in
-    digits_end _ _ c.requires.fact_1.1 all loop.invariant.2
-
-pub returns-clause-place : goal.returns-clause-place
-returns-clause-place c =
-    omega arith
+pub returns : goal.returns
+unfolding state_text
+returns c =
+    let every = rw (take_all _ _ c.loop-copy-test.false) at c.loop-copy.invariant in c.byte.ensures then every

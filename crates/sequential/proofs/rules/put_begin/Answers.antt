@@ -1,28 +1,19 @@
 -- `put_begin` meets its contract: B begins at counter 1 under the helper, and nowhere else.
-use Rattle.sequential.proofs.Counting.{nothing}
-use Rattle.sequential.proofs.Making.{begin_none, begin_other, begin_one, begin_shows}
+use Rattle.sequential.specs.Parts.{state_of}
+use Rattle.sequential.proofs.Making.{begin_none, begin_other, begin_one}
 use Rattle.sequential.proofs.rules.put_begin.Goals as goal
+use Rattle.sequential.proofs.rules.put_begin.Goals.{else-s-eq1-via-then-s-eq1+else-top-eq-HELPER, else-s-eq1-via-else-s-eq1}
 
-pub returns-then-s-ne1 : goal.returns-then-s-ne1
-returns-then-s-ne1 c = rw (begin_none c.requires.fact_1 _ _ c.if-s-ne1.true) (nothing _ _ _)
+pub rule-requires : goal.rule-requires
+rule-requires g c = rw (begin_one (state_of c.args.s) _ c.args.b c.if-s-eq1.true c.if-top-eq-HELPER.true) at c.requires.room
 
-pub returns-then-top-ne35 : goal.returns-then-top-ne35
-returns-then-top-ne35 c = rw (begin_other c.requires.fact_1 _ c.if-top-ne35.true) (nothing _ _ _)
+pub returns-then-top-eq-HELPER : goal.returns-then-top-eq-HELPER
+returns-then-top-eq-HELPER g c = rw (begin_one (state_of c.args.s) _ c.args.b c.if-s-eq1.true c.if-top-eq-HELPER.true) c.rule.ensures
 
-pub put_rule-requires-clause-fact_1 : goal.put_rule-requires-clause-fact_1
-put_rule-requires-clause-fact_1 c =
-    let d = c.requires.fact_1 in
-    let b = c.args.b in
-    let top = c.if-top-ne35.false in
-    begin_shows d b c.requires.fact_2 top
-
-pub put_rule-requires-clause-fact_2 : goal.put_rule-requires-clause-fact_2
-put_rule-requires-clause-fact_2 c =
-    let d = c.requires.fact_1 in
-    let b = c.args.b in
-    let top = c.if-top-ne35.false in
-    rw (begin_one d b c.if-s-ne1.false top) at c.requires.fact_3
-
-pub returns : goal.returns
-returns c =
-    rw (begin_one c.requires.fact_1 _ c.if-s-ne1.false c.if-top-ne35.false) c.put_rule.ensures
+pub returns-else-s-eq1 : goal.returns-else-s-eq1
+returns-else-s-eq1 g c =
+    elim c.else-s-eq1.branch [
+      | else-s-eq1-via-then-s-eq1+else-top-eq-HELPER w ↦
+          rw (begin_other (state_of c.args.s) _ c.args.b w.if-top-eq-HELPER.false) (g.S.Sink.laws.nothing _)
+      | else-s-eq1-via-else-s-eq1 w ↦ rw (begin_none (state_of c.args.s) _ c.args.b w.if-s-eq1.false) (g.S.Sink.laws.nothing _)
+    ]

@@ -1,26 +1,13 @@
 -- `put_pass` meets its contract: the tops from 0 to 33 pass, and no other.
-use Prim.Native.Nat.{◌≤◌}
-use native.Mathlib.Omega.{arith}
-use Rattle.sequential.proofs.Counting.{nothing}
-use Rattle.sequential.proofs.Making.{pass_none, pass_one, pass_shows}
+use Rattle.sequential.specs.Parts.{state_of}
+use Rattle.sequential.proofs.Making.{pass_none, pass_one}
 use Rattle.sequential.proofs.rules.put_pass.Goals as goal
 
-pub returns-then-top-gt33 : goal.returns-then-top-gt33
-returns-then-top-gt33 c = rw (pass_none c.requires.fact_1 c.if-top-gt33.true) (nothing _ _ _)
+pub rule-requires : goal.rule-requires
+rule-requires g c = rw (pass_one (state_of c.args.s) _ c.if-top-le-MARK_B.true) at c.requires.room
 
-pub put_rule-requires-clause-fact_1 : goal.put_rule-requires-clause-fact_1
-put_rule-requires-clause-fact_1 c =
-    let d = c.requires.fact_1 in
-    let low : c.args.top ≤ 33 = omega arith in
-    pass_shows d low
+pub returns-then-top-le-MARK_B : goal.returns-then-top-le-MARK_B
+returns-then-top-le-MARK_B g c = rw (pass_one (state_of c.args.s) _ c.if-top-le-MARK_B.true) c.rule.ensures
 
-pub put_rule-requires-clause-fact_2 : goal.put_rule-requires-clause-fact_2
-put_rule-requires-clause-fact_2 c =
-    let d = c.requires.fact_1 in
-    let low : c.args.top ≤ 33 = omega arith in
-    rw (pass_one d low) at c.requires.fact_2
-
-pub returns : goal.returns
-returns c =
-    let low : c.args.top ≤ 33 = omega arith in
-    rw (pass_one c.requires.fact_1 low) c.put_rule.ensures
+pub returns-else-top-le-MARK_B : goal.returns-else-top-le-MARK_B
+returns-else-top-le-MARK_B g c = rw (pass_none (state_of c.args.s) _ c.if-top-le-MARK_B.false) (g.S.Sink.laws.nothing _)

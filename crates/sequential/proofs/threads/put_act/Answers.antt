@@ -1,33 +1,29 @@
 -- `put_act` meets its contract: the rule is put where the copy and the top are those before it.
 use mathlib.Core.Path.{sym, ◌∙◌}
-use Rattle.sequential.proofs.Counting.{nothing}
-use Rattle.sequential.proofs.Making.{act_none, act_other, act_one, act_shows}
+use Rattle.sequential.proofs.Making.{act_none, act_other, act_one}
 use Rattle.sequential.proofs.threads.put_act.Goals as goal
+use Rattle.sequential.proofs.threads.put_act.Goals.{else-r-s-via-then-r-s+else-symbol_of-top, else-r-s-via-else-r-s}
 
-pub returns-then-r-s : goal.returns-then-r-s
-returns-then-r-s c = rw (act_none c.args.r _ c.requires.fact_2 c.if-r-s.true) (nothing _ _ _)
+pub rule-requires : goal.rule-requires
+rule-requires g c =
+    let s = c.args.s in
+    let top = sym c.symbol_of.ensures ∙ c.if-symbol_of-top.true in
+    let one = act_one s.rounds s.counter s.copies _ c.args.r c.args.id s.low c.requires.turn c.if-r-s.true top in
+    rw c.right_of.ensures (rw one at c.requires.room)
 
 pub returns-then-symbol_of-top : goal.returns-then-symbol_of-top
-returns-then-symbol_of-top c =
-    rw (act_other c.args.r c.args.id c.requires.fact_2 (λ e. c.if-symbol_of-top.true (c.symbol_of.ensures ∙ e))) (nothing _ _ _)
+returns-then-symbol_of-top g c =
+    let s = c.args.s in
+    let top = sym c.symbol_of.ensures ∙ c.if-symbol_of-top.true in
+    rw (act_one s.rounds s.counter s.copies _ c.args.r c.args.id s.low c.requires.turn c.if-r-s.true top, ← c.right_of.ensures) c.rule.ensures
 
-pub put_rule-requires-clause-fact_1 : goal.put_rule-requires-clause-fact_1
-put_rule-requires-clause-fact_1 c =
-    let r = c.args.r in
-    let t = c.requires.fact_2 in
-    let same = c.right_of-new.ensures in
-    rw same (act_shows r _ t c.requires.fact_1)
-
-pub put_rule-requires-clause-fact_2 : goal.put_rule-requires-clause-fact_2
-put_rule-requires-clause-fact_2 c =
-    let r = c.args.r in
-    let t = c.requires.fact_2 in
-    let top = sym c.symbol_of.ensures ∙ c.if-symbol_of-top.false in
-    let same = c.right_of-new.ensures in
-    rw same (rw (act_one r _ t c.if-r-s.false top) at c.requires.fact_3)
-
-pub returns : goal.returns
-returns c =
-    let r = c.args.r in
-    let top = sym c.symbol_of.ensures ∙ c.if-symbol_of-top.false in
-    rw (act_one r _ c.requires.fact_2 c.if-r-s.false top, ← c.right_of-new.ensures) c.put_rule.ensures
+pub returns-else-r-s : goal.returns-else-r-s
+returns-else-r-s g c =
+    let s = c.args.s in
+    elim c.else-r-s.branch [
+      | else-r-s-via-then-r-s+else-symbol_of-top w ↦
+          rw (act_other s.rounds s.counter s.copies _ c.args.r c.args.id s.low c.requires.turn (λ e. w.if-symbol_of-top.false (w.symbol_of.ensures ∙ e)))
+          (g.S.Sink.laws.nothing _)
+      | else-r-s-via-else-r-s w ↦
+          rw (act_none s.rounds s.counter s.copies _ c.args.r c.args.id s.low c.requires.turn w.if-r-s.false) (g.S.Sink.laws.nothing _)
+    ]

@@ -1,6 +1,5 @@
 use mathlib.Core.Bool.{cond}
 use mathlib.Core.Path.{◌≡◌, ◌∙◌}
-use native.Mathlib.Nat.{le_antisymm}
 use lib.Dec.{eqb}
 use Rattle.std.proofs.Common.{rules}
 use borrow.Author.Tests.{eq-eqb, ne_eqb}
@@ -23,6 +22,3 @@ loop-d-preserved c =
       | else-d-stay w ↦ w.table-is ∙ rw (ne_eqb d stay w.if-d-stay.false)
     ] in
     (search rules, node_next inv.1 (search rules) blank)
-
-pub returns : goal.returns
-returns c = rw (le_antisymm c.loop-d.invariant.0 c.loop-d-test.false) at c.loop-d.invariant.1

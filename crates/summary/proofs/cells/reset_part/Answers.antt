@@ -1,16 +1,13 @@
-use native.Mathlib.Nat.{le_antisymm, le_trans}
-use Rattle.std.proofs.Common.{rules}
-use Rattle.summary.proofs.Resets.{reset_start, reset_next, blank_part}
+-- `reset_part` meets its contract: the cells from `from` up to `to` are filled with what stands for no count.
+use native.Mathlib.Omega.{arith}
+use Prim.Native.Nat.{◌-◌}
+use lib.ListN.{drop, length-drop}
+use Rattle.std.proofs.Common.{length-take-le}
+use Rattle.summary.proofs.Resets.{reset_filled}
 use Rattle.summary.proofs.cells.reset_part.Goals as goal
 
-pub loop-i-init : goal.loop-i-init
-loop-i-init c = (search rules, search rules, reset_start _ _ _)
-
-pub loop-i-preserved : goal.loop-i-preserved
-loop-i-preserved c =
-    let loop = c.loop-i in
-    let part = blank_part _ _ (le_trans c.requires.0 loop.invariant.0) in
-    (search rules, search rules, reset_next loop.invariant.2 loop.invariant.0 (search rules) part)
-
 pub returns : goal.returns
-returns c = rw (le_antisymm c.loop-i.invariant.1 c.loop-i-test.false) at c.loop-i.invariant.2
+returns c =
+    let room = length-drop c.args.from c.args.table.now in
+    let long = length-take-le (c.args.to - c.args.from) (drop c.args.from c.args.table.now) (omega arith) in
+    reset_filled c.requires.0 c.requires.1 c.requires.2 (rw long at (c.fill.ensures.after (λ y h. h)))

@@ -1,5 +1,5 @@
 -- `cross_pushes` meets its contract. The invariant: the controls below q are relaxed.
-use Prim.Native.Nat.{◌+◌, ◌*◌, ◌-◌}
+use Prim.Native.Nat.{◌+◌, ◌*◌}
 use Rattle.summary.specs.Cells.{lane, gone}
 use Rattle.summary.specs.Edges.{Row}
 use Rattle.summary.proofs.Loops.{Turning}
@@ -7,7 +7,4 @@ use Rattle.summary.proofs.cross.cross_pushes.Given as goal
 
 abbrev pub invariant-loop-q : goal.invariant-loop-q
 invariant-loop-q l =
-    Turning 256 (λ q. Row 1 (lane l.second l.push.from l.push.symbol 0) (lane l.first l.push.to l.push.a (gone q) + l.l) (lane l.first q l.push.b 0) (l.shape.dests * 16)) l.controls l.initial.table l.table l.changes l.q
-
-abbrev pub decreases-loop-q : goal.decreases-loop-q
-decreases-loop-q l = l.controls - l.q
+    Turning 256 (λ q. Row 1 (lane l.second l.step.from l.step.symbol 0) (lane l.first l.step.to l.push.a.0 (gone q) + l.l) (lane l.first q l.push.b.0 0) (l.shape.dests * 16)) l.shape.controls l.initial.table l.table l.changes l.q

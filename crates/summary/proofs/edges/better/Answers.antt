@@ -4,4 +4,4 @@ use mathlib.Core.Path.{◌∙◌}
 use Rattle.summary.proofs.edges.better.Goals as goal
 
 pub returns : goal.returns
-returns c = c.least-2.ensures ∙ rw (c.greatest.ensures, c.least.ensures) (offered _ _ _ c.requires.1 c.requires.2)
+returns c = c.min-2.ensures ∙ rw (c.max.ensures, c.min.ensures) (offered _ _ _ c.requires.1 c.requires.2)

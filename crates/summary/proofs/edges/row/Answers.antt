@@ -1,7 +1,8 @@
+use mathlib.Core.Path.{◌∙◌}
 use Prim.Native.Nat.{◌+◌}
 use native.Mathlib.Nat.{le_refl, le_antisymm}
 use Rattle.std.proofs.Common.{rules}
-use Rattle.summary.proofs.Rows.{row_turn, row_start, row_idle}
+use Rattle.summary.proofs.Rows.{counted, row_turn, row_start, row_idle}
 use Rattle.summary.proofs.Capped.{within}
 use Rattle.summary.proofs.edges.row.Goals as goal
 
@@ -16,8 +17,8 @@ better-new-requires c =
     let args = c.args in
     let loop = c.loop-d in (
       search rules,
-      (within {u = loop.table} loop.invariant.3.low c.requires.fact_2.1 (le_refl _)).most (args.b + loop.d) (search rules),
-      (within {u = loop.table} loop.invariant.3.low c.requires.fact_2.0 (le_refl _)).most (args.to + loop.d) (search rules),
+      (within {u = loop.table} loop.invariant.3.low c.requires.source (le_refl _)).most (args.b + loop.d) (search rules),
+      (within {u = loop.table} loop.invariant.3.low c.requires.goal (le_refl _)).most (args.to + loop.d) (search rules),
     )
 
 pub loop-d-preserved : goal.loop-d-preserved
@@ -26,8 +27,7 @@ loop-d-preserved c =
       search rules,
       search rules,
       search rules,
-      rw c.fallen-changes.ensures.0
-          (row_turn loop.invariant.3 c.if-x-gt-CAP.false (search rules) _ c.better-new.ensures),
+      rw (c.from-changes.ensures ∙ counted _) (row_turn loop.invariant.3 c.if-x-gt-CAP.false (search rules) _ c.better-new.ensures),
     )
 
 pub returns : goal.returns

@@ -1,18 +1,15 @@
 use native.Mathlib.Omega.{arith}
-use Rattle.summary.proofs.Capped.{held, rows_in}
+use Rattle.summary.proofs.Fitting.{row_ready}
 use Rattle.summary.proofs.Loops.{starts, turns, ends}
 use Rattle.summary.proofs.ends.named_edges.Goals as goal
 
 pub loop-q-init : goal.loop-q-init
 loop-q-init c = starts _ _ _ _
 
-pub row-changes-requires-clause-fact_1 : goal.row-changes-requires-clause-fact_1
-row-changes-requires-clause-fact_1 c =
-    omega (arith, c.plain_cell.ensures, c.free_of-states.ensures, c.requires.fact_1, c.loop-q.invariant.relaxed.size)
-
-pub row-changes-requires-clause-fact_2 : goal.row-changes-requires-clause-fact_2
-row-changes-requires-clause-fact_2 c =
-    rows_in (held c.loop-q.invariant.relaxed c.requires.fact_2) (omega (arith, c.plain_cell.ensures, c.free_of-states.ensures, c.requires.fact_1))
+pub row-changes-requires : goal.row-changes-requires
+row-changes-requires c =
+    let relaxed = c.loop-q.invariant.relaxed in
+    row_ready relaxed c.requires.ready (omega (arith, c.plain_cell.ensures, c.free_of-states.ensures, c.requires.ready.room, relaxed.size))
 
 pub loop-q-preserved : goal.loop-q-preserved
 loop-q-preserved c =

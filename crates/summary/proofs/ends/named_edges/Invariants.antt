@@ -1,5 +1,5 @@
 -- `named_edges` meets its contract. The invariant: the states below q are relaxed.
-use Prim.Native.Nat.{◌+◌, ◌-◌}
+use Prim.Native.Nat.{◌+◌}
 use Rattle.summary.specs.Cells.{plain, rest}
 use Rattle.summary.specs.Edges.{Row}
 use Rattle.summary.proofs.Loops.{Turning}
@@ -8,6 +8,3 @@ use Rattle.summary.proofs.ends.named_edges.Given as goal
 abbrev pub invariant-loop-q : goal.invariant-loop-q
 invariant-loop-q l =
     Turning 1 (λ q. Row 0 (plain q l.symbol (8 + q)) rest rest 1) l.states l.initial.table l.table l.changes l.q
-
-abbrev pub decreases-loop-q : goal.decreases-loop-q
-decreases-loop-q l = l.states - l.q

@@ -1,23 +1,17 @@
 use native.Mathlib.Omega.{arith}
-use Rattle.summary.proofs.Capped.{held, rows_in}
 use Rattle.summary.proofs.Loops.{starts, turns, ends}
-use Rattle.summary.proofs.Fitting.{pops_row}
+use Rattle.summary.proofs.Fitting.{row_ready, pops_row}
 use Rattle.summary.proofs.lanes.lane_pops.Goals as goal
 
 pub loop-d-init : goal.loop-d-init
 loop-d-init c = starts _ _ _ _
 
-pub row-changes-requires-clause-fact_1 : goal.row-changes-requires-clause-fact_1
-row-changes-requires-clause-fact_1 c =
-    let relaxed = c.loop-d.invariant.relaxed in let fits =
-    pops_row relaxed c.requires.fact_1.0 c.requires.fact_1.2 c.requires.fact_1.3 c.requires.fact_1.4 c.requires.fact_1.1 c.loop-d-test.true c.gone_at.ensures.0 c.lane_cell.ensures c.plain_cell.ensures
-    c.lane_cell-from.ensures in fits.0
-
-pub row-changes-requires-clause-fact_2 : goal.row-changes-requires-clause-fact_2
-row-changes-requires-clause-fact_2 c =
-    let relaxed = c.loop-d.invariant.relaxed in let fits =
-    pops_row relaxed c.requires.fact_1.0 c.requires.fact_1.2 c.requires.fact_1.3 c.requires.fact_1.4 c.requires.fact_1.1 c.loop-d-test.true c.gone_at.ensures.0 c.lane_cell.ensures c.plain_cell.ensures
-    c.lane_cell-from.ensures in rows_in (held relaxed c.requires.fact_2) fits.1
+pub row-changes-requires : goal.row-changes-requires
+row-changes-requires c =
+    let relaxed = c.loop-d.invariant.relaxed in
+    row_ready relaxed c.requires.ready
+    (pops_row relaxed c.args.push c.requires.ready.room c.requires.control c.requires.base c.loop-d-test.true c.gone_at.ensures.0 c.lane_cell.ensures
+    c.plain_cell.ensures c.lane_cell-from.ensures)
 
 pub loop-d-preserved : goal.loop-d-preserved
 loop-d-preserved c =

@@ -1,5 +1,4 @@
 -- `plain_pushes` meets its contract. The invariant: the controls below q are relaxed.
-use Prim.Native.Nat.{◌-◌}
 use Rattle.summary.specs.Cells.{plain, gone}
 use Rattle.summary.specs.Edges.{Row}
 use Rattle.summary.proofs.Loops.{Turning}
@@ -7,7 +6,4 @@ use Rattle.summary.proofs.plain.plain_pushes.Given as goal
 
 abbrev pub invariant-loop-q : goal.invariant-loop-q
 invariant-loop-q l =
-    Turning 16 (λ q. Row 1 (plain l.push.from l.push.symbol 0) (plain l.push.to l.push.a (gone q)) (plain q l.push.b 0) l.shape.dests) l.controls l.initial.table l.table l.changes l.q
-
-abbrev pub decreases-loop-q : goal.decreases-loop-q
-decreases-loop-q l = l.controls - l.q
+    Turning 16 (λ q. Row 1 (plain l.step.from l.step.symbol 0) (plain l.step.to l.push.a.0 (gone q)) (plain q l.push.b.0 0) l.step.shape.dests) l.step.shape.controls l.initial.table l.table l.changes l.q

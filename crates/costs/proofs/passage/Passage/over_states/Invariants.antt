@@ -1,0 +1,13 @@
+-- `over_states` meets its contract. The invariant: best is the least over the states below q.
+use mathlib.Core.Path.{◌≡◌}
+use Prim.Native.Nat.{ℕ}
+use Rattle.model.specs.Tops.{Top}
+use Rattle.costs.specs.Cost.{control, over_states}
+use Rattle.costs.specs.Passages.{Along}
+use Rattle.summary.specs.Control.{TurnEnd}
+use Rattle.costs.proofs.passage.Passage.over_states.Given as goal
+
+abbrev pub invariant-loop-q : goal.invariant-loop-q
+invariant-loop-q l =
+    (ends : ℕ → TurnEnd) (f : Top) (s : ℕ) → Along l.self ends f s
+    → l.best ≡ over_states l.self.table.controls ends l.self.table.cells.now (control 0 l.self.from) l.self.symbol f (control l.self.n s) l.j l.q l.old
