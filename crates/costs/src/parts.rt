@@ -52,7 +52,8 @@ impl Line {
     }
 }
 
-// A power of G: so many lines have `len` states. By a loop, since the library's `pow` makes a line table take a sixth longer.
+// A power of G: so many lines have `len` states. By a loop: by the library's `pow` a line table took more instructions, a fourteenth
+// of all.
 pub fn power(g: usize, len: usize) -> usize
     requires { (g ≤ 4) × (len ≤ 6) }
     ensures { (result ≡ g ^ len) × (result ≤ full_lines) }
