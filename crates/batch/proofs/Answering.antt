@@ -56,12 +56,3 @@ judges {old = old} {n = n} {places} {list} e h =
 pub listed : {tray : List ℕ} {list list' : List Outcome} {old new : List ℕ} {r : Result ℕ Refusal} (os : List Outcome)
     → Batched tray (length list) r os old new → list' ≡ sets list 0 os → Listed tray r list list' old new
 listed os h e = record { outcomes = os; batched = h; filled = e }
-
--- .. and so are those that were copied there.
-pub copied_listed : {tray old new : List ℕ} {list copied : List Outcome} (b : Batch) → JudgesAll tray (length list) (Ok b) old new
-    → copied ≡ take b.count b.outcomes → Listed tray (Ok b.count) list (copied ++ drop b.count list) old new
-copied_listed {list = list} b j e =
-    let xs = take b.count b.outcomes in
-    let size : length xs ≡ b.count = length-take-le b.count b.outcomes (omega (arith, j.1, j.2)) in
-    let place : 0 + length xs ≡ b.count = omega (arith, size) in
-    listed xs j.3 (rw (e, sets-eq xs list 0 (omega (arith, size, j.0)), place) refl)

@@ -31,7 +31,9 @@ pub fn to_list(list: &mut [Outcome], tray: &[u8], store: &mut [u8]) -> Result<us
     ensures { Listed tray.now result list.old list.new store.old store.new }
 {
     let all = judge_all(list.len(), tray, store)?;
-    list[..all.count].copy_from_slice(&all.outcomes[..all.count]);
+    for i in 0..all.count {
+        list[i] = all.outcomes[i];
+    }
     Ok(all.count)
 }
 

@@ -177,9 +177,9 @@ fn case(cases: &mut Cases) -> bool {
 }
 
 fn main(rt: HostRuntime) -> io::Result<()> {
-    in_a_row().report(&rt, "in a row")?;
-    at_start().report(&rt, "found at the start")?;
-    sizes().report(&rt, "sizes")?;
+    in_a_row().report(&rt, b"in a row")?;
+    at_start().report(&rt, b"found at the start")?;
+    sizes().report(&rt, b"sizes")?;
     let mut store = vec![in rt.alloc(); 0u8; 610000]?;
     vectors::file(&rt, "batches-1.bin", &mut store, case)?;
     vectors::file(&rt, "batches-2.bin", &mut store, case)

@@ -7,7 +7,7 @@ use Rattle.costs.specs.declared.passage.Passage.{Passage}
 use Rattle.costs.specs.Lanes.{end_lane}
 
 -- A passage goes along turn ends to a state under a top.
-pub record Along (p : Passage) (ends : ℕ → TurnEnd) (f : Top) (s : ℕ) : Type 0 where
+pub record Along {N : ℕ} (p : Passage N) (ends : ℕ → TurnEnd) (f : Top) (s : ℕ) : Type 0 where
   pub first : p.a ≡ end_lane ends 0
   pub second : p.b ≡ end_lane ends 1
   pub to : p.to ≡ stays_of f + s

@@ -21,6 +21,7 @@ use crate::side::Side;
 use crate::slices::fill_ends;
 use model::{Model, Thread, ThreadId, Top};
 use summary::pushdown::Pushdown;
+pub use summary::{NAMED, STAYS};
 
 // So many full lines there are at most: four states at the ends of six turns.
 pub const LINES: usize = 4096;
@@ -80,12 +81,12 @@ fn fill(table: &mut [u16], costs: &mut [u16], named: &mut [u16], side: &Side)
 {
     side.system.close_plain(table);
     if side.n == 0 {
-        Reading { side, cells: table }.fill(costs, named);
+        Reading::<0> { side, cells: table }.fill(costs, named);
         return;
     }
     side.system.close_first(table);
     if side.n == 1 {
-        Reading { side, cells: table }.fill(costs, named);
+        Reading::<1> { side, cells: table }.fill(costs, named);
         return;
     }
     fill_ends(table, costs, named, side);

@@ -1,24 +1,26 @@
 // The costs of full lines, read off a thread's solved table.
-ghost use Rattle.std.specs.Prelude.{◌≤◌, length};
+ghost use Rattle.std.specs.Prelude.{◌≡◌, ◌≤◌, length};
 ghost use Rattle.summary.specs.Cells.{size};
 
 use crate::LINES;
-use crate::parts::turn_of;
+use crate::parts::{Line, turn_of};
 use crate::passage::Passage;
 use crate::side::Side;
 use crate::table::Table;
 use model::Top;
 use summary::stays_of;
 
-// A thread's side, and the cells of its table.
+// A thread's side with N turn ends, and the cells of its table. N is known when this is compiled: so it is known how many parts of the table
+// a line reads, and which, and nothing is left of the choice.
 #[derive(Clone, Copy)]
-pub struct Reading<'a> {
+pub struct Reading<'a, const N: usize> {
     pub side: &'a Side,
     pub cells: &'a [u16],
+    ghost ends: { side.now.n ≡ N },
     ghost room: { size side.now.system.shape.controls ≤ length cells.now },
 }
 
-impl Reading<'_> {
+impl<const N: usize> Reading<'_, N> {
     ghost use Rattle.std.specs.Prelude.{◌≡◌, ℕ, None, length};
     ghost use Rattle.costs.specs.Cost.{WhereNamed};
     ghost use Rattle.costs.specs.Lanes.{full_lines, Value, FirstLanes, cost_of, ReadOff, SliceOff};
@@ -29,16 +31,19 @@ impl Reading<'_> {
         ensures { result ≡ cost_of self.entry.cells.now self.entry.side.now top v }
     {
         let side = self.side;
-        let line = side.line(v);
-        let passage = Passage {
+        let line = Line {
+            g: side.system.g,
+            len: 2 * N + 2,
+            value: v,
+        };
+        let passage = Passage::<N> {
             table: Table {
                 cells: self.cells,
                 controls: side.system.shape.controls,
             },
-            n: side.n,
             from: line.first_state(side.id, side.start),
             symbol: side.system.th.first.0 as usize,
-            to: stays_of(top) + line.state(turn_of(side.id, side.n)),
+            to: stays_of(top) + line.state(turn_of(side.id, N)),
             a: line.lane(side.id, 0),
             b: line.lane(side.id, 1),
         };

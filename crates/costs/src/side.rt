@@ -6,7 +6,7 @@ use model::ThreadId;
 use summary::pushdown::Pushdown;
 
 // A thread with n turn ends along each full line: its own turns are those of A or of B, and the run starts in a state.
-#[derive(Drop)]
+#[derive(Clone, Copy)]
 pub struct Side {
     pub system: Pushdown,
     pub id: ThreadId,

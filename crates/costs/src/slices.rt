@@ -59,7 +59,7 @@ fn fill_from(
 {
     for i in 0..side.system.g {
         side.system.close_second(table, o, i);
-        let reading = Reading { side, cells: table };
+        let reading = Reading::<2> { side, cells: table };
         reading.fill_slice(costs, named, lanes, o * 4 + i);
     }
 }

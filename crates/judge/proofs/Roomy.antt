@@ -39,7 +39,7 @@ pub powers_low : (g n : ℕ) → g ≤ 4 → n ≤ 6 → powers g n ≤ 5460
 powers_low g n h k = omega (arith, powers_left g n h, powers_four n k)
 
 -- A valid model is not refused by the judge where the stores have 683 and 8,190 bytes.
-unrefused : (m : Model) → Valid m → refusal_of m 683 most_bytes ≡ 0
+pub unrefused : (m : Model) → Valid m → refusal_of m 683 most_bytes ≡ 0
 unfolding refusal_of
 unrefused m v =
     let f = (valid_fits m).0 v in

@@ -262,11 +262,11 @@ const FILES: [&str; 6] = [
 ];
 
 fn main(rt: HostRuntime) -> io::Result<()> {
-    document().report(&rt, "document 01")?;
-    tops().report(&rt, "tops")?;
-    held_in_one().and(held_in_two()).report(&rt, "held rules")?;
-    depths().report(&rt, "depths")?;
-    stores().and(counts()).report(&rt, "stores and counts")?;
+    document().report(&rt, b"document 01")?;
+    tops().report(&rt, b"tops")?;
+    held_in_one().and(held_in_two()).report(&rt, b"held rules")?;
+    depths().report(&rt, b"depths")?;
+    stores().and(counts()).report(&rt, b"stores and counts")?;
     let mut store = vec![in rt.alloc(); 0u8; 610000]?;
     for name in FILES {
         vectors::file(&rt, name, &mut store, case)?;

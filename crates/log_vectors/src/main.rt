@@ -175,11 +175,11 @@ fn case(cases: &mut Cases) -> bool {
 
 // The file of the longest has logs that change the thread at every byte, from A on and from B on: 4,094, 4,095 and 4,096 bytes.
 fn main(rt: HostRuntime) -> io::Result<()> {
-    document().report(&rt, "document 01")?;
-    threads().report(&rt, "rounds by threads")?;
-    held().report(&rt, "held rules")?;
-    sizes().report(&rt, "bit 6 and sizes")?;
-    values().report(&rt, "models as values")?;
+    document().report(&rt, b"document 01")?;
+    threads().report(&rt, b"rounds by threads")?;
+    held().report(&rt, b"held rules")?;
+    sizes().report(&rt, b"bit 6 and sizes")?;
+    values().report(&rt, b"models as values")?;
     let mut store = [0u8; 130000];
     vectors::file(&rt, "longest.bin", &mut store, case)?;
     vectors::file(&rt, "logs.bin", &mut store, case)

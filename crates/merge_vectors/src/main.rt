@@ -104,7 +104,7 @@ fn case(cases: &mut Cases) -> bool {
 
 // cases.bin has the pairs of bindings/cases.txt, and merges.bin random ones.
 fn main(rt: HostRuntime) -> io::Result<()> {
-    values().report(&rt, "values")?;
+    values().report(&rt, b"values")?;
     let mut store = [0u8; 210000];
     vectors::file(&rt, "cases.bin", &mut store, case)?;
     vectors::file(&rt, "merges.bin", &mut store, case)

@@ -42,7 +42,7 @@ fn looks(
     rt: &(impl Files + Eprint),
     bytes: &[u8],
     schedule: &[u8],
-    path: &str,
+    path: &[u8],
     store: &mut [u8],
 ) -> bool {
     agrees(bytes, schedule, 0, vectors::load(rt, path, store))
@@ -52,17 +52,17 @@ fn looks(
 fn by_hand(rt: &(impl Files + Eprint)) -> Tally {
     let mut store = [0u8; 4500];
     Tally::of(&[
-        looks(rt, &vectors::ONE, &[0, 0], "one.txt", &mut store),
+        looks(rt, &vectors::ONE, &[0, 0], b"one.txt", &mut store),
         looks(
             rt,
             &vectors::TWO,
             &[0, 0, 0, 1, 1, 0, 2, 2],
-            "two.txt",
+            b"two.txt",
             &mut store,
         ),
-        looks(rt, &vectors::TWO, &[], "none.txt", &mut store),
-        looks(rt, &DEEP, &[0; 56], "deep_a.txt", &mut store),
-        looks(rt, &DEEP_B, &[1; 56], "deep_b.txt", &mut store),
+        looks(rt, &vectors::TWO, &[], b"none.txt", &mut store),
+        looks(rt, &DEEP, &[0; 56], b"deep_a.txt", &mut store),
+        looks(rt, &DEEP_B, &[1; 56], b"deep_b.txt", &mut store),
     ])
 }
 
@@ -138,8 +138,8 @@ fn case(cases: &mut Cases) -> bool {
 }
 
 fn main(rt: HostRuntime) -> io::Result<()> {
-    by_hand(&rt).report(&rt, "by hand")?;
-    refused().report(&rt, "refused")?;
-    at_length().report(&rt, "longest schedule")?;
+    by_hand(&rt).report(&rt, b"by hand")?;
+    refused().report(&rt, b"refused")?;
+    at_length().report(&rt, b"longest schedule")?;
     vectors::file(&rt, "pages.bin", &mut [0u8; 410000], case)
 }

@@ -74,7 +74,7 @@ fn held() -> Tally {
 }
 
 fn main(rt: HostRuntime) -> io::Result<()> {
-    document().report(&rt, "document 01")?;
-    tops().report(&rt, "tops")?;
-    held().report(&rt, "held rules")
+    document().report(&rt, b"document 01")?;
+    tops().report(&rt, b"tops")?;
+    held().report(&rt, b"held rules")
 }

@@ -9,6 +9,7 @@ ghost use Rattle.record.specs.Reader.{read_of};
 ghost use Rattle.record.specs.Written.{written_of, store_of, Survives};
 
 use model::{Model, Refusal, need};
+pub use rules::RuleList;
 
 mod bytes;
 pub mod reader;

@@ -29,8 +29,15 @@ pub fn front(bytes: &[u8]) -> Result<Front, Refusal>
 {
     let mut reader = Reader { rest: bytes };
     let head = reader.head()?;
-    let (rules_a, rest_a) = read_rules(reader.rest, bit(head.map, 6), head.g)?;
-    let (rules_b, rest) = read_rules(rest_a, bit(head.map, 7), head.g)?;
+    // by `match`: through `?` the check does not follow a rule list, which is `Copy` and keeps a fact
+    let (rules_a, rest_a) = match read_rules(reader.rest, bit(head.map, 6), head.g) {
+        Ok(read) => read,
+        Err(refusal) => return Err(refusal),
+    };
+    let (rules_b, rest) = match read_rules(rest_a, bit(head.map, 7), head.g) {
+        Ok(read) => read,
+        Err(refusal) => return Err(refusal),
+    };
     let model = model_of(head, rules_a, rules_b);
     model::check_across(model)?;
     Ok(Front {

@@ -1,8 +1,10 @@
 // The readers of rules: a thread's list, one rule, its new symbols.
-ghost use Rattle.std.specs.Prelude.{◌≡◌, List, take};
+ghost use Rattle.std.specs.Prelude.{◌++◌, ◌-◌, ◌≡◌, List, length, replicate, take};
 ghost use Rattle.model.specs.declared.Rule.{Rule};
 ghost use Rattle.model.specs.Rules.{zero_rule};
-ghost use Rattle.model.specs.Zero.{Padded};
+ghost use Rattle.model.specs.Zero.{Padded, in_places};
+ghost use Rattle.model.proofs.Padded.{counts, fills};
+ghost use Rattle.std.proofs.Common.{ap, ◌∙◌};
 ghost use Rattle.record.specs.Held.{answered, leaves};
 ghost use Rattle.record.specs.Reader.{parse_right, parse_rule, rule_map, parse_rules};
 
@@ -11,7 +13,7 @@ use model::{Refusal, Right, Rule, Shared, Symbol, ZERO_RULE, need};
 use std::marker::Model;
 
 // The rules of a thread: the first `count`; the places after them are zero. There is no heap, so the count stands beside 64 places.
-#[derive(Drop)]
+#[derive(Clone, Copy)]
 pub struct RuleList {
     pub count: usize,
     pub rules: [Rule; 64],
@@ -23,6 +25,13 @@ impl Model for RuleList {
     ghost view = { λ l. take l.count l.rules };
 
     ghost invariant = { λ l. Padded zero_rule l.count l.rules };
+
+    ghost inverse = { λ l. record { count = length l; rules = in_places zero_rule l } };
+
+    ghost inverse_ok = { λ l h i. record {
+      count = counts h i;
+      rules = (ap (λ n. take l.count l.rules ++ replicate (64 - n) zero_rule) (counts h) ∙ fills h) i;
+    } };
 }
 
 // The rules of a thread, from the place of their count, and what follows them; no byte is taken where they are absent. The least key that

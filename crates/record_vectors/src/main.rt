@@ -82,8 +82,8 @@ fn case(cases: &mut Cases) -> bool {
 // about symbol counts. longest.bin has the longest record, of 670 bytes, and the same with a byte less, with one more, and with its last
 // symbol at the count.
 fn main(rt: HostRuntime) -> io::Result<()> {
-    document().report(&rt, "document 01")?;
-    second_maps().report(&rt, "second maps")?;
+    document().report(&rt, b"document 01")?;
+    second_maps().report(&rt, b"second maps")?;
     let mut store = [0u8; 100000];
     for name in [
         "counts.bin",

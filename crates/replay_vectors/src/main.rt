@@ -169,10 +169,10 @@ fn case(cases: &mut Cases) -> bool {
 }
 
 fn main(rt: HostRuntime) -> io::Result<()> {
-    document().report(&rt, "document 01")?;
-    tops().report(&rt, "tops")?;
-    held().report(&rt, "held rules")?;
-    longest().report(&rt, "longest schedules")?;
-    depths().report(&rt, "depths")?;
+    document().report(&rt, b"document 01")?;
+    tops().report(&rt, b"tops")?;
+    held().report(&rt, b"held rules")?;
+    longest().report(&rt, b"longest schedules")?;
+    depths().report(&rt, b"depths")?;
     vectors::file(&rt, "schedules.bin", &mut [0u8; 450000], case)
 }

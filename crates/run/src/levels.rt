@@ -5,20 +5,21 @@ ghost use Rattle.run.specs.Exits.{exit_at, least_over};
 ghost use Rattle.run.specs.Levels.{levels_size, level_at, over_level, after_step};
 
 use crate::course::Course;
+pub use crate::course::EXITS;
 use model::Right;
 
 // How many cells the levels have: 24 for the empty stack, and 24 for each of 4,095 symbols that may lie under the top.
-const LEVELS: usize = 98304;
+pub const LEVELS: usize = 98304;
 
 // How many symbols may lie under the top, and one for the empty stack.
-const SYMBOLS: usize = 4096;
+pub const SYMBOLS: usize = 4096;
 
 // The stack under the top: for each level its symbol, and for each place the least steps to the end with that symbol on top. The two stay
 // apart: of a level there are 24 counts and one symbol, and the inner loops read counts alone.
 #[derive(Drop)]
 pub struct Levels {
-    pub(crate) counts: [u16; LEVELS],
-    pub(crate) symbols: [u8; SYMBOLS],
+    pub counts: [u16; LEVELS],
+    pub symbols: [u8; SYMBOLS],
     ghost size: { length counts ≡ levels_size },
     ghost room: { length symbols ≡ 4096 },
     ghost fit: { (i : ℕ) → get_or symbols i 0 ≤ 16 },

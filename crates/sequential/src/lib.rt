@@ -9,6 +9,7 @@ ghost use Rattle.sequential.specs.Answer.{plain, model_refusal, text_for, printe
 
 use model::{Model, Refusal};
 use sink::{Count, Sink};
+pub use state::Transition;
 use writer::Output;
 
 mod line;

@@ -35,7 +35,7 @@ pub fn put_counter<S: Sink>(out: &mut S, m: Model, counter: u8)
 {
     let n = parts::power(m.g as usize, m.k as usize);
     for v in 0..n {
-        put_state(out, m, state_at(m, counter, v));
+        put_state(out, &m, state_at(m, counter, v));
     }
 }
 
@@ -62,12 +62,12 @@ fn state_at(m: Model, counter: u8, v: usize) -> State
     }
 }
 
-// Those at a state, for all tops.
-fn put_state<S: Sink>(out: &mut S, m: Model, s: State)
-    requires fits { Fits m }
-    requires rounds { s.rounds ≡ m.k }
-    requires room { length (text_of (rules_of m (state_of s))) ≤ S.room out.old }
-    ensures { S.takes out.old out.new (text_of (rules_of m (state_of s))) }
+// Those at a state, for all tops. The model comes by reference, here and below: by value it was copied for each state and each top.
+fn put_state<S: Sink>(out: &mut S, m: &Model, s: State)
+    requires fits { Fits m.now }
+    requires rounds { s.rounds ≡ m.now.k }
+    requires room { length (text_of (rules_of m.now (state_of s))) ≤ S.room out.old }
+    ensures { S.takes out.old out.new (text_of (rules_of m.now (state_of s))) }
 {
     for top in 0..SYMBOLS {
         put_top(out, m, s, top);
@@ -75,16 +75,16 @@ fn put_state<S: Sink>(out: &mut S, m: Model, s: State)
 }
 
 // Those at a state and a top.
-fn put_top<S: Sink>(out: &mut S, m: Model, s: State, top: u8)
-    requires fits { Fits m }
-    requires rounds { s.rounds ≡ m.k }
-    requires room { length (text_of (rules_at m (state_of s) top)) ≤ S.room out.old }
-    ensures { S.takes out.old out.new (text_of (rules_at m (state_of s) top)) }
+fn put_top<S: Sink>(out: &mut S, m: &Model, s: State, top: u8)
+    requires fits { Fits m.now }
+    requires rounds { s.rounds ≡ m.now.k }
+    requires room { length (text_of (rules_at m.now (state_of s) top)) ≤ S.room out.old }
+    ensures { S.takes out.old out.new (text_of (rules_at m.now (state_of s) top)) }
 {
     if s.counter <= m.k {
         threads::put_taken(out, m, s, top);
         put_pass(out, s, top);
-        put_begin(out, m.b, s, top);
+        put_begin(out, &m.b, s, top);
     } else {
         put_close(out, s, top);
     }
@@ -109,10 +109,10 @@ fn put_pass<S: Sink>(out: &mut S, s: State, top: u8)
 }
 
 // The rule by which B begins.
-fn put_begin<S: Sink>(out: &mut S, b: Thread, s: State, top: u8)
-    requires first { b.first.0 ≤ 15 }
-    requires room { length (text_of (begin_of b (state_of s) top)) ≤ S.room out.old }
-    ensures { S.takes out.old out.new (text_of (begin_of b (state_of s) top)) }
+fn put_begin<S: Sink>(out: &mut S, b: &Thread, s: State, top: u8)
+    requires first { b.now.first.0 ≤ 15 }
+    requires room { length (text_of (begin_of b.now (state_of s) top)) ≤ S.room out.old }
+    ensures { S.takes out.old out.new (text_of (begin_of b.now (state_of s) top)) }
 {
     if s.counter == 1 && top == HELPER {
         out.rule(Transition {

@@ -27,25 +27,25 @@ pub fn is_plain(t: Thread) -> bool
 
 // Puts the rules that take a top at a state: A's where it is A's symbol, and else B's. That a turn is left is a clause here, below and in
 // `rules`: a state may also stand past its last turn, so `State` cannot say it.
-pub fn put_taken<S: Sink>(out: &mut S, m: Model, s: State, top: u8)
-    requires fits { Fits m }
+pub fn put_taken<S: Sink>(out: &mut S, m: &Model, s: State, top: u8)
+    requires fits { Fits m.now }
     requires turn { s.counter ≤ s.rounds }
-    requires room { length (text_of (taken_at m (taker_of top) (state_of s) top)) ≤ S.room out.old }
-    ensures { S.takes out.old out.new (text_of (taken_at m (taker_of top) (state_of s) top)) }
+    requires room { length (text_of (taken_at m.now (taker_of top) (state_of s) top)) ≤ S.room out.old }
+    ensures { S.takes out.old out.new (text_of (taken_at m.now (taker_of top) (state_of s) top)) }
 {
     if top < FROM_B {
-        put_acts(out, m.a, ThreadId::A, s, top);
+        put_acts(out, &m.a, ThreadId::A, &s, top);
     } else {
-        put_acts(out, m.b, ThreadId::B, s, top);
+        put_acts(out, &m.b, ThreadId::B, &s, top);
     }
 }
 
-// Those of one thread.
-fn put_acts<S: Sink>(out: &mut S, t: Thread, id: ThreadId, s: State, top: u8)
-    requires fits { ActsFit t }
-    requires turn { s.counter ≤ s.rounds }
-    requires room { length (text_of (acts_of t id (state_of s) top)) ≤ S.room out.old }
-    ensures { S.takes out.old out.new (text_of (acts_of t id (state_of s) top)) }
+// Those of one thread. The state comes by reference, too: by value it was copied for each rule, to look at one of its copies.
+fn put_acts<S: Sink>(out: &mut S, t: &Thread, id: ThreadId, s: &State, top: u8)
+    requires fits { ActsFit t.now }
+    requires turn { s.now.counter ≤ s.now.rounds }
+    requires room { length (text_of (acts_of t.now id (state_of s.now) top)) ≤ S.room out.old }
+    ensures { S.takes out.old out.new (text_of (acts_of t.now id (state_of s.now) top)) }
 {
     for r in 0..t.count {
         put_act(out, t.rules[r], id, s, top);
@@ -53,18 +53,18 @@ fn put_acts<S: Sink>(out: &mut S, t: Thread, id: ThreadId, s: State, top: u8)
 }
 
 // One rule of a thread, if it takes the top.
-fn put_act<S: Sink>(out: &mut S, r: Rule, id: ThreadId, s: State, top: u8)
+fn put_act<S: Sink>(out: &mut S, r: Rule, id: ThreadId, s: &State, top: u8)
     requires fits { RuleFits 4 r }
-    requires turn { s.counter ≤ s.rounds }
-    requires room { length (text_of (act_of r id (state_of s) top)) ≤ S.room out.old }
-    ensures { S.takes out.old out.new (text_of (act_of r id (state_of s) top)) }
+    requires turn { s.now.counter ≤ s.now.rounds }
+    requires room { length (text_of (act_of r id (state_of s.now) top)) ≤ S.room out.old }
+    ensures { S.takes out.old out.new (text_of (act_of r id (state_of s.now) top)) }
 {
     let place = s.counter as usize - 1;
     if r.before.0 == s.copies[place] && symbol_of(id, r.symbol.0) == top {
-        let mut to = s;
+        let mut to = *s;
         to.copies[place] = r.after.0;
         out.rule(Transition {
-            from: s,
+            from: *s,
             top,
             to,
             new: right_of(id, r.right),

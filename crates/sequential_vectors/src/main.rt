@@ -76,8 +76,8 @@ fn case(cases: &mut Cases) -> bool {
 }
 
 fn main(rt: HostRuntime) -> io::Result<()> {
-    sizes().report(&rt, "sizes")?;
-    refused().report(&rt, "refused")?;
+    sizes().report(&rt, b"sizes")?;
+    refused().report(&rt, b"refused")?;
     let mut store = vec![in rt.alloc(); 0u8; 600000]?;
     for name in [
         "onestack1.bin",

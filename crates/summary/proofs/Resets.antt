@@ -68,7 +68,7 @@ nodes_next {N} {k} {from} {stay} {t} {u} {v} r h ef es n =
     }
 
 -- In a part with turn ends inside nothing is reached at the start.
-blank_part : (N k : ℕ) → first N ≤ k → unreached ≡ blank N k
+pub blank_part : (N k : ℕ) → first N ≤ k → unreached ≡ blank N k
 unfolding blank
 blank_part N k h = rw (le-ltb k (first (free_of N)) (omega arith))
 

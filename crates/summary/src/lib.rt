@@ -7,6 +7,7 @@ ghost use Rattle.summary.specs.Shapes.{sizes};
 ghost use Rattle.summary.specs.Sizes.{shape_of};
 
 use crate::shape::Shape;
+pub use crate::transition::Push;
 use model::{Thread, Top};
 
 pub mod cells;
@@ -59,12 +60,18 @@ pub fn shape_of(top: Top, controls: usize) -> Shape
     }
 }
 
+// The first destination of staying under any top.
+pub const STAYS: usize = 4;
+
+// The first destination of staying under the named top.
+pub const NAMED: usize = 8;
+
 // The first of the destinations of staying under a top.
 pub fn stays_of(top: Top) -> usize
     ensures { (result ≡ stays_of top) × (result ≤ 8) }
 {
     match top {
-        None => 4,
-        Some(_) => 8,
+        None => STAYS,
+        Some(_) => NAMED,
     }
 }

@@ -10,7 +10,7 @@ use crate::{controls_of, shape_of};
 use model::{Thread, Top};
 
 // A thread's rules over the shared states below g, the top that is asked for, and the shape of its table.
-#[derive(Drop)]
+#[derive(Clone, Copy)]
 pub struct Pushdown {
     pub g: usize,
     pub top: Top,

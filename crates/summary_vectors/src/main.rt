@@ -145,14 +145,14 @@ fn file(
     t: &mut [u16; SIZE],
     store: &mut [u8],
 ) -> io::Result<()> {
-    let sum = dense(t, vectors::load(rt, "dense.bin", store));
+    let sum = dense(t, vectors::load(rt, b"dense.bin", store));
     println!(rt; "dense.bin: sum {sum}")
 }
 
 fn main(rt: HostRuntime) -> io::Result<()> {
     let mut t = [0u16; SIZE];
-    doubling(&mut t).report(&rt, "doubling thread")?;
-    held(&mut t).report(&rt, "held rules")?;
+    doubling(&mut t).report(&rt, b"doubling thread")?;
+    held(&mut t).report(&rt, b"held rules")?;
     let mut store = [0u8; 700];
     file(&rt, &mut t, &mut store)
 }

@@ -85,6 +85,6 @@ fn case(cases: &mut Cases) -> bool {
 }
 
 fn main(rt: HostRuntime) -> io::Result<()> {
-    by_hand().report(&rt, "by hand")?;
+    by_hand().report(&rt, b"by hand")?;
     vectors::file(&rt, "trays.bin", &mut [0u8; 210000], case)
 }

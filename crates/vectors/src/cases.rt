@@ -12,6 +12,13 @@ pub struct Cases<'a> {
 }
 
 impl<'a> Cases<'a> {
+    // The fields of these bytes, from the first on.
+    pub fn new(rest: &'a [u8]) -> Cases<'a>
+        ensures { result.rest.now ≡ rest.now }
+    {
+        Cases { rest }
+    }
+
     // The next byte.
     pub fn byte(&mut self) -> u8
         ensures value { result ≡ slice_index self.old.rest.now 0 }
@@ -75,7 +82,7 @@ pub fn corpus<F: Fn(&mut Cases) -> bool>(bytes: &[u8], case: F) -> Tally
     ensures agree { Answers (F.post case) true → result.differ ≡ 0 }
     ensures disagree { Answers (F.post case) false → result.differ ≡ result.compared }
 {
-    let mut cases = Cases { rest: bytes };
+    let mut cases = Cases::new(bytes);
     let mut tally = Tally::new();
     // a `while`: each case says where the next one begins
     while !cases.rest.is_empty() {

@@ -10,7 +10,7 @@ ghost use Rattle.vectors.specs.Stores.{answer_of, model_or_zero};
 ghost use Rattle.vectors.specs.Tallies.{count};
 
 use model::{Model, Refusal, Thread, ThreadId};
-use std::io::Read;
+use std::io::{ErrorKind, Read};
 use std::rt::Files;
 use std::{fmt, fs, io};
 
@@ -80,9 +80,10 @@ impl Tally {
         }
     }
 
-    // A line such as `records.bin: 2200 compared, 0 differ`.
-    pub fn report(self, rt: &impl Print, name: &str) -> io::Result<()> {
-        println!(rt; "{name}: {self}")
+    // A line such as `records.bin: 2200 compared, 0 differ`. The name is any bytes.
+    pub fn report(self, rt: &impl Print, name: &[u8]) -> io::Result<()> {
+        rt.write_all(name)?;
+        println!(rt; ": {self}")
     }
 }
 
@@ -102,21 +103,32 @@ pub fn file<F: Fn(&mut Cases) -> bool>(
     requires { F.IsAlwaysCallable case }
     ensures { length store.new ≡ length store.old }
 {
+    let name = name.as_bytes();
     corpus(load(rt, name, store), case).report(rt, name)
 }
 
 // Reads a file of the program's folder into a store, and answers its bytes. One that cannot be opened is named on standard error, and has
 // none.
-pub fn load<'a>(rt: &(impl Files + Eprint), path: &str, store: &'a mut [u8]) -> &'a [u8] {
-    match fs::open(rt, path) {
+pub fn load<'a>(rt: &(impl Files + Eprint), path: &[u8], store: &'a mut [u8]) -> &'a [u8]
+    ensures { length result.now ≤ length store.old }
+{
+    match open(rt, path) {
         Ok(mut file) => {
             let size = fill(&mut file, store);
             &store[..size]
         }
         Err(error) => {
-            let _ = eprintln!(rt; "{path}: {error}");
+            let _ = eprintln!(rt; "{}: {error}", path.escape_ascii());
             &[]
         }
+    }
+}
+
+// A path is text.
+fn open<R: Files>(rt: &R, path: &[u8]) -> io::Result<R::File> {
+    match str::from_utf8(path) {
+        Ok(text) => fs::open(rt, text),
+        Err(_) => Err(io::Error::from(ErrorKind::InvalidInput)),
     }
 }
 

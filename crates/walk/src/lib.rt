@@ -128,7 +128,6 @@ impl Walk {
 
     // A step made in its turn, whatever that turn's number is: no turn is left after a held step (12), and then the turn's thread makes it
     // (10). It is a part of each loop of steps: called from there, it would take longer than all that it does.
-    #[tactic(auto, using(crate::proofs::Stepping::fires, model::proofs::Owners::even_turn, model::proofs::Owners::odd_turn), unfolding(model::specs::Walk::turn_free))]
     #[inline(always)]
     pub fn made(
         self,

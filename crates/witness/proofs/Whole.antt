@@ -39,11 +39,11 @@ rounds : (k : ℕ) → 1 ≤ k → 2 * suc (k - 1) ≡ 2 * k
 rounds k h = omega arith
 
 -- A table that is solved for a line is so for one with the same first turn end.
-pub known_solved : {m : Model} {i : ThreadId} {last : Option ℕ} {v : ℕ} {table : List ℕ} → SameEnd i m.g (m.k - 1) last v
+pub known_solved : {m : Model} {i : ThreadId} {last : Option ℕ} {v : ℕ} {table : List ℕ} → Fits m → SameEnd i m.g (m.k - 1) last v
     → SolvesFor m i last table → SolvedFor (thread_of i m) (thread_of i m).top i m.g (m.k - 1) v table
-known_solved s h two =
+known_solved {m} f s h two =
     exact_same (ap (λ (e : TurnEnd). e.leave) (sym s.same)) (ap (λ (e : TurnEnd). e.enter) (sym s.same))
-    ((h.done s.line s.known).1 two)
+    (h.done s.line s.known (rw (rounds m.k f.k.0) at s.low) two)
 
 -- A place of a line of states holds one, be it beyond the end.
 state_low : {g : ℕ} (line : List ℕ) → 1 ≤ g → States g line → (k : ℕ) → get_or line k 0 < g
@@ -81,11 +81,6 @@ pub to_side : {m : Model} {i : ThreadId} {side : Side} → SideOf m i side → (
     → Q (thread_of i m) m.g (thread_of i m).top i (m.k - 1) m.start.0
     → Q side.system.th side.system.g side.system.top side.id side.n side.start
 to_side s Q r = all_as Q s.th s.g s.top s.id s.n s.start r
-
--- That line is one of the thread's side.
-pub known_line : {m : Model} {i : ThreadId} {side : Side} {last : Option ℕ} {table : List ℕ} {v : ℕ} → Fits m → SideOf m i side
-    → SolvesFor m i last table → last ≡ Some v → Value side v
-known_line {m} {v = v} f s h e = to_side s (λ t g top j n q. v < g ^ (2 * suc n)) (rw (rounds m.k f.k.0) (h.done v e).0)
 
 -- .. and the other way.
 pub from_side : {m : Model} {i : ThreadId} {side : Side} → SideOf m i side → (Q : Thread → ℕ → Top → ThreadId → ℕ → ℕ → Type 0)

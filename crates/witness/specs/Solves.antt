@@ -17,6 +17,7 @@ use Rattle.run.specs.Base.{Base, SolvedFor}
 pub record SameEnd (id : ThreadId) (g n : ℕ) (last : Option ℕ) (v : ℕ) : Type 0 where
   pub line : ℕ
   pub known : last ≡ Some line
+  pub low : line < g ^ (2 * suc n)
   pub same : ends_of id (digits g (2 * suc n) line) 0 ≡ ends_of id (digits g (2 * suc n) v) 0
 
 -- The side of a thread of a model, for the top that the model names.
@@ -29,11 +30,11 @@ pub record SideOf (m : Model) (i : ThreadId) (side : Side) : Type 0 where
   pub start : side.start ≡ m.start.0
 
 -- The table of a thread has its cells, and what all lines share is solved in it, for the top that the model names; and the rest for the
--- first turn end of one full line, if there is one, given by its value.
+-- first turn end of one full line, if there is one, given by a number that is the value of one.
 pub record SolvesFor (m : Model) (id : ThreadId) (last : Option ℕ) (table : List ℕ) : Type 0 where
   pub room : size (controls_of (thread_of id m) m.g) ≤ length table
   pub base : Base (thread_of id m) (thread_of id m).top m.g (m.k - 1) table
-  pub done : (v : ℕ) → last ≡ Some v → (v < m.g ^ (2 * m.k)) × SolvedFor (thread_of id m) (thread_of id m).top id m.g (m.k - 1) v table
+  pub done : (v : ℕ) → last ≡ Some v → v < m.g ^ (2 * m.k) → SolvedFor (thread_of id m) (thread_of id m).top id m.g (m.k - 1) v table
 
 -- The same of the tables of A and of B.
 pub record Solves (m : Model) (last : Option ℕ) (a b : List ℕ) : Type 0 where

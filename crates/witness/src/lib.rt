@@ -43,7 +43,8 @@ fn prepare_one(m: Model, id: ThreadId, table: &mut [u16])
     requires room { size (controls_of (thread_of id m) m.g) ≤ length table.old }
     ensures { SolvesFor m id None table.new }
 {
-    base(table, &side_for(m, id));
+    let side = side_for(m, id);
+    base(table, &side.system, side.n);
 }
 
 // The side of a thread of a model, for the top that the model names.
@@ -111,14 +112,16 @@ fn write_one(
     steps(table, &side, v, count, known, levels, out);
 }
 
-// Whether a full line is known, and has the thread's first turn end in common with another.
+// Whether a full line is known, and has the thread's first turn end in common with another. A number past the last line is none.
 fn same_end(side: &Side, last: Option<usize>, v: usize) -> bool
-    requires line { Value side.now v }
-    requires known { (old : ℕ) → last ≡ Some old → Value side.now old }
+    requires { Value side.now v }
     ensures { result ≡ true → SameEnd side.now.id side.now.system.g side.now.n last v }
 {
     let Some(old) = last else {
         return false;
     };
+    if side.lines() <= old {
+        return false;
+    }
     side.line(old).lane(side.id, 0) == side.line(v).lane(side.id, 0)
 }

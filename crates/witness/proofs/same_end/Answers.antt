@@ -6,7 +6,7 @@ use Rattle.witness.proofs.same_end.Goals as goal
 
 pub returns : goal.returns
 returns c = λ e.
-    let k = c.requires.known _ c.in-Some.is in
+    let k = rw c.lines.ensures.0 at c.if-lines-old.false in
     let a = c.line.ensures in
     let b = c.line-2.ensures in
     let old = rw (a.0, a.1, a.2) at c.lane.ensures.0 in
@@ -14,5 +14,6 @@ returns c = λ e.
     record {
       line = c.in-Some.old;
       known = c.in-Some.is;
-      same = one_lane c.args.side.now k c.requires.line (sym old ∙ (eqb-true _ _ e ∙ new));
+      low = k;
+      same = one_lane c.args.side.now k c.requires (sym old ∙ (eqb-true _ _ e ∙ new));
     }

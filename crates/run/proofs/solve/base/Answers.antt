@@ -2,8 +2,8 @@
 use Rattle.run.proofs.Bases.{base_more}
 use Rattle.run.proofs.solve.base.Goals as goal
 
-pub returns-then-side-eq0 : goal.returns-then-side-eq0
-returns-then-side-eq0 c = rw c.if-side-eq0.true c.close_plain.ensures.solved
+pub returns-then-n-eq0 : goal.returns-then-n-eq0
+returns-then-n-eq0 c = rw c.if-n-eq0.true c.close_plain.ensures.solved
 
 pub returns : goal.returns
-returns c = let system = c.args.side.now.system in base_more system.th system.top system.g _ _ c.if-side-eq0.false c.close_first.ensures.solved
+returns c = let system = c.args.system.now in base_more system.th system.top system.g _ _ c.if-n-eq0.false c.close_first.ensures.solved

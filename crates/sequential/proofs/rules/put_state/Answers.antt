@@ -10,10 +10,10 @@ loop-top-init g c = loop_start g.S.Sink.laws _ _
 pub put_top-requires-clause-room : goal.put_top-requires-clause-room
 unfolding rules_of
 put_top-requires-clause-room g c =
-    loop_room g.S.Sink.laws (rules_at c.args.m (state_of c.args.s)) c.loop-top-test.true c.loop-top.invariant c.requires.room
+    loop_room g.S.Sink.laws (rules_at c.args.m.now (state_of c.args.s)) c.loop-top-test.true c.loop-top.invariant c.requires.room
 
 pub loop-top-preserved : goal.loop-top-preserved
-loop-top-preserved g c = loop_next g.S.Sink.laws (rules_at c.args.m (state_of c.args.s)) _ c.loop-top.invariant c.put_top.ensures
+loop-top-preserved g c = loop_next g.S.Sink.laws (rules_at c.args.m.now (state_of c.args.s)) _ c.loop-top.invariant c.put_top.ensures
 
 pub returns : goal.returns
 unfolding rules_of

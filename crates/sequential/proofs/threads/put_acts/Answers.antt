@@ -15,13 +15,13 @@ pub put_act-requires-clause-room : goal.put_act-requires-clause-room
 unfolding acts_of
 put_act-requires-clause-room g c =
     let a = c.args in
-    let f : ℕ → List StackRule = λ i. act_of (rule_at a.t i) a.id (state_of a.s) a.top in
+    let f : ℕ → List StackRule = λ i. act_of (rule_at a.t.now i) a.id (state_of a.s.now) a.top in
     loop_room g.S.Sink.laws f c.loop-r-test.true c.loop-r.invariant c.requires.room
 
 pub loop-r-preserved : goal.loop-r-preserved
 loop-r-preserved g c =
     let a = c.args in
-    let f : ℕ → List StackRule = λ i. act_of (rule_at a.t i) a.id (state_of a.s) a.top in
+    let f : ℕ → List StackRule = λ i. act_of (rule_at a.t.now i) a.id (state_of a.s.now) a.top in
     loop_next g.S.Sink.laws f _ c.loop-r.invariant c.put_act.ensures
 
 pub returns : goal.returns

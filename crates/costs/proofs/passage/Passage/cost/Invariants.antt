@@ -8,6 +8,6 @@ use Rattle.summary.specs.Control.{TurnEnd}
 use Rattle.costs.proofs.passage.Passage.cost.Given as goal
 
 abbrev pub invariant-loop-j : goal.invariant-loop-j
-invariant-loop-j l =
+invariant-loop-j g l =
     (ends : ℕ → TurnEnd) (f : Top) (s : ℕ) → Along l.self ends f s
-    → l.best ≡ over_turns l.self.table.controls ends l.self.table.cells.now (control 0 l.self.from) l.self.symbol f (control l.self.n s) l.j
+    → l.best ≡ over_turns l.self.table.controls ends l.self.table.cells.now (control 0 l.self.from) l.self.symbol f (control g.row.N s) l.j

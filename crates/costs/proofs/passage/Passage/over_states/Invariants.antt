@@ -8,6 +8,6 @@ use Rattle.summary.specs.Control.{TurnEnd}
 use Rattle.costs.proofs.passage.Passage.over_states.Given as goal
 
 abbrev pub invariant-loop-q : goal.invariant-loop-q
-invariant-loop-q l =
+invariant-loop-q g l =
     (ends : ℕ → TurnEnd) (f : Top) (s : ℕ) → Along l.self ends f s
-    → l.best ≡ over_states l.self.table.controls ends l.self.table.cells.now (control 0 l.self.from) l.self.symbol f (control l.self.n s) l.j l.q l.old
+    → l.best ≡ over_states l.self.table.controls ends l.self.table.cells.now (control 0 l.self.from) l.self.symbol f (control g.row.N s) l.j l.q l.old

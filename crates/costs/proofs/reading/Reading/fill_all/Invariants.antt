@@ -5,4 +5,4 @@ use Rattle.costs.proofs.Front.{Front}
 use Rattle.costs.proofs.reading.Reading.fill_all.Given as goal
 
 abbrev pub invariant-loop-v : goal.invariant-loop-v
-invariant-loop-v l = Front (λ v x. x ≡ cost_of l.self.cells.now l.self.side.now l.top v) l.v l.initial.costs l.costs
+invariant-loop-v g l = Front (λ v x. x ≡ cost_of l.self.cells.now l.self.side.now l.top v) l.v l.initial.costs l.costs

@@ -9,7 +9,7 @@ use Rattle.costs.proofs.Front.{Front}
 use Rattle.costs.proofs.reading.Reading.slice_to.Given as goal
 
 abbrev pub invariant-loop-v : goal.invariant-loop-v
-invariant-loop-v l =
+invariant-loop-v g l =
     Front
     (λ v x. x ≡ cond (eqb (first_lane l.self.side.now v) l.lane) (cost_of l.self.cells.now l.self.side.now l.top v) (get_or l.initial.costs v 0))
     l.v l.initial.costs l.costs
