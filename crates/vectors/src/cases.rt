@@ -8,7 +8,7 @@ use crate::Tally;
 // The bytes that are still to be read. What a file cut short lacks reads as zeros, or as no bytes.
 #[derive(Drop)]
 pub struct Cases<'a> {
-    rest: &'a [u8],
+    pub rest: &'a [u8],
 }
 
 impl<'a> Cases<'a> {
