@@ -7,7 +7,7 @@ ghost use Rattle.model.specs.Valid.{Valid};
 ghost use Rattle.model.specs.Verdict.{found, Judged};
 ghost use Rattle.costs.specs.Cost.{TargetCosts};
 ghost use Rattle.costs.specs.Lanes.{full_lines};
-ghost use Rattle.witness.specs.Solves.{Solves};
+ghost use Rattle.witness.specs.Solves.{Solves, SolvesIfLine};
 ghost use Rattle.judge.specs.Least.{Adds};
 
 use crate::Instance;
@@ -78,6 +78,8 @@ impl Search<'_> {
 
     // The least schedule over the lines up to v, from that over those before it. Only a line to the target whose two threads' least steps
     // add up to those of a shortest schedule has one of that length. `last` is the last such line, if there was one; so is the answer.
+    // The clauses ask no more of `last` than `write` does: it may be any number. Where the tables are solved for a line as `last`, or for none,
+    // they are so for the answer (`solved`).
     fn with_line(
         &self,
         v: usize,
@@ -89,11 +91,12 @@ impl Search<'_> {
         schedule: &mut [u8; MOST_BYTES],
     ) -> Option<usize>
         requires line { v < self.now.count }
-        requires tables { Solves self.now.m last first.old second.old }
+        requires tables { SolvesIfLine self.now.m last first.old second.old }
         requires costs { TargetCosts self.now.m self.now.costs.a.now self.now.costs.b.now }
         requires judged { Judged self.now.m (found self.now.steps) }
         ensures adds { Adds self.now.m self.now.steps v schedule.old schedule.new (is_some last) (is_some result) }
-        ensures tables { Solves self.now.m result first.new second.new }
+        ensures tables { SolvesIfLine self.now.m result first.new second.new }
+        ensures solved { Solves self.now.m last first.old second.old → Solves self.now.m result first.new second.new }
     {
         let x = self.costs.a[v];
         let y = self.costs.b[v];

@@ -6,7 +6,7 @@ use Prim.Native.Nat.{ℕ, zero, suc, ◌+◌, ◌-◌, ◌*◌, ◌^◌, ◌≤�
 use native.Mathlib.Omega.{arith}
 use lib.ListN.{length, get_or, take, replicate, length-replicate}
 use lib.Seq.{sets, length-sets, length-take-le}
-use Rattle.std.specs.Prelude.{Option, Some}
+use Rattle.std.specs.Prelude.{Option}
 use Rattle.model.specs.declared.Model.{Model}
 use Rattle.model.specs.First.{First}
 use Rattle.model.specs.Fits.{Fits}
@@ -31,19 +31,32 @@ use Rattle.run.specs.Chosen.{ChosenFor}
 use Rattle.run.proofs.Bases.{exact_same}
 use Rattle.witness.specs.Chosen.{Chosen, ChosenBy}
 use Rattle.witness.specs.Merge.{merged}
-use Rattle.witness.specs.Solves.{SameEnd, SideOf, SolvesFor, FirstOf}
+use Rattle.witness.specs.Solves.{SameEnd, SideOf, Solves, SolvesFor, SolvesIfLine, SolvesForIfLine, FirstOf}
 use Rattle.witness.proofs.FirstMerged.{merged_first}
 
 -- K rounds are K − 1 turn ends and one more.
 rounds : (k : ℕ) → 1 ≤ k → 2 * suc (k - 1) ≡ 2 * k
 rounds k h = omega arith
 
--- A table that is solved for a line is so for one with the same first turn end.
-pub known_solved : {m : Model} {i : ThreadId} {last : Option ℕ} {v : ℕ} {table : List ℕ} → Fits m → SameEnd i m.g (m.k - 1) last v
-    → SolvesFor m i last table → SolvedFor (thread_of i m) (thread_of i m).top i m.g (m.k - 1) v table
-known_solved {m} f s h two =
+-- A table that is solved for a line is so for its number, which the weaker definition lets be that of no line.
+pub if_line : {m : Model} {i : ThreadId} {last : Option ℕ} {table : List ℕ} → SolvesFor m i last table → SolvesForIfLine m i last table
+if_line h = record { room = h.room; base = h.base; done = λ v e low. (h.done v e).1 }
+
+-- So of both tables.
+pub solves_if_line : {m : Model} {last : Option ℕ} {a b : List ℕ} → Solves m last a b → SolvesIfLine m last a b
+solves_if_line h = record { first = if_line h.first; second = if_line h.second }
+
+-- A table that is solved for the number of a line is so for one with the same first turn end ..
+pub known_solved_if_line : {m : Model} {i : ThreadId} {last : Option ℕ} {v : ℕ} {table : List ℕ} → SameEnd i m.g (m.k - 1) last v
+    → SolvesForIfLine m i last table → SolvedFor (thread_of i m) (thread_of i m).top i m.g (m.k - 1) v table
+known_solved_if_line {m} s h two =
     exact_same (ap (λ (e : TurnEnd). e.leave) (sym s.same)) (ap (λ (e : TurnEnd). e.enter) (sym s.same))
-    (h.done s.line s.known (rw (rounds m.k f.k.0) at s.low) two)
+    (h.done s.line s.known (rw (rounds m.k (omega (arith, two))) at s.low) two)
+
+-- .. and so is one that is solved for a line.
+pub known_solved : {m : Model} {i : ThreadId} {last : Option ℕ} {v : ℕ} {table : List ℕ} → SameEnd i m.g (m.k - 1) last v
+    → SolvesFor m i last table → SolvedFor (thread_of i m) (thread_of i m).top i m.g (m.k - 1) v table
+known_solved s h = known_solved_if_line s (if_line h)
 
 -- A place of a line of states holds one, be it beyond the end.
 state_low : {g : ℕ} (line : List ℕ) → 1 ≤ g → States g line → (k : ℕ) → get_or line k 0 < g

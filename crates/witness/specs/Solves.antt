@@ -30,16 +30,27 @@ pub record SideOf (m : Model) (i : ThreadId) (side : Side) : Type 0 where
   pub start : side.start ≡ m.start.0
 
 -- The table of a thread has its cells, and what all lines share is solved in it, for the top that the model names; and the rest for the
--- first turn end of one full line, if there is one, given by a number that is the value of one.
+-- first turn end of one full line, if there is one, given by its value.
 pub record SolvesFor (m : Model) (id : ThreadId) (last : Option ℕ) (table : List ℕ) : Type 0 where
   pub room : size (controls_of (thread_of id m) m.g) ≤ length table
   pub base : Base (thread_of id m) (thread_of id m).top m.g (m.k - 1) table
-  pub done : (v : ℕ) → last ≡ Some v → v < m.g ^ (2 * m.k) → SolvedFor (thread_of id m) (thread_of id m).top id m.g (m.k - 1) v table
+  pub done : (v : ℕ) → last ≡ Some v → (v < m.g ^ (2 * m.k)) × SolvedFor (thread_of id m) (thread_of id m).top id m.g (m.k - 1) v table
 
 -- The same of the tables of A and of B.
 pub record Solves (m : Model) (last : Option ℕ) (a b : List ℕ) : Type 0 where
   pub first : SolvesFor m A last a
   pub second : SolvesFor m B last b
+
+-- The same as `SolvesFor`, for any number: if it is no line's value, nothing is said of the rest.
+pub record SolvesForIfLine (m : Model) (id : ThreadId) (last : Option ℕ) (table : List ℕ) : Type 0 where
+  pub room : size (controls_of (thread_of id m) m.g) ≤ length table
+  pub base : Base (thread_of id m) (thread_of id m).top m.g (m.k - 1) table
+  pub done : (v : ℕ) → last ≡ Some v → v < m.g ^ (2 * m.k) → SolvedFor (thread_of id m) (thread_of id m).top id m.g (m.k - 1) v table
+
+-- And of the tables of A and of B.
+pub record SolvesIfLine (m : Model) (last : Option ℕ) (a b : List ℕ) : Type 0 where
+  pub first : SolvesForIfLine m A last a
+  pub second : SolvesForIfLine m B last b
 
 -- The first of a thread's shortest runs along the full line whose value is v stands at the front of a store.
 abbrev pub FirstOf : Model → ThreadId → ℕ → ℕ → List ℕ → List ℕ → Type 0

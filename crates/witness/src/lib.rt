@@ -11,7 +11,7 @@ ghost use Rattle.model.specs.Walk.{thread_of};
 ghost use Rattle.costs.specs.Lanes.{TableFor, Value};
 ghost use Rattle.summary.specs.Cells.{controls_of, size};
 ghost use Rattle.witness.specs.Chosen.{Chosen, ChosenBy};
-ghost use Rattle.witness.specs.Solves.{SameEnd, SideOf, Solves, SolvesFor, FirstOf};
+ghost use Rattle.witness.specs.Solves.{SameEnd, SideOf, Solves, SolvesFor, SolvesIfLine, SolvesForIfLine, FirstOf};
 
 mod merge;
 
@@ -61,7 +61,8 @@ fn side_for(m: Model, id: ThreadId) -> Side
 
 // Writes the first of the shortest schedules along the full line whose value is v to the tops that the model names, where x and y are the
 // least steps of A and of B along it. `last` is the line that was written before, if one was: where a thread's first turn end is the same,
-// its table is not solved again. That the schedule has room is a clause: docs/PROMISES.md names this call, and an array would ask more.
+// its table is not solved again. A number that is no line's value counts as none. That the schedule has room is a clause: docs/PROMISES.md
+// names this call, and an array would ask more.
 pub fn write(
     m: Model,
     v: usize,
@@ -75,7 +76,7 @@ pub fn write(
 )
     requires fits { Fits m }
     requires chosen { Chosen m v x y }
-    requires solved { Solves m last a.old b.old }
+    requires solved { SolvesIfLine m last a.old b.old }
     requires room { most_bytes ≤ length schedule.old }
     ensures first { Stored (First (EndsUnder m (digits m.g (2 * m.k) v)) (x + y)) (x + y) 0
         schedule.old schedule.new }
@@ -103,7 +104,7 @@ fn write_one(
 )
     requires fits { Fits m }
     requires chosen { ChosenBy m id v count }
-    requires solved { SolvesFor m id last table.old }
+    requires solved { SolvesForIfLine m id last table.old }
     ensures first { FirstOf m id v count out.old out.new }
     ensures table { SolvesFor m id (Some v) table.new }
 {
